@@ -1,0 +1,5 @@
+pub mod SystemLaws
+pub mod FixedLaws
+pub mod AreaLaws
+pub mod CheckLaws
+pub mod Written

@@ -1,0 +1,57 @@
+-- The systems, row by row: what every line of a system has room for. Nothing above goes by the four rows again.
+-- Assumes nothing.
+use mathlib.Core.Path.{_≡_, refl, sym, ap, _∙_, subst}
+use mathlib.Core.Bool.{Bool, true, _&&_}
+use mathlib.Core.List.{List}
+use Prim.Native.Nat.{ℕ, zero, suc, _+_, _≤_}
+use native.Mathlib.Omega.{arith}
+use lib.Dec.{eqb, ltb, lit≤}
+use lib.ListN.{length}
+use borrow.Author.Tests.{ltb-true, eqb-true}
+use Rattle.lists.proofs.Tests.{both-true}
+use Rattle.words.specs.Modes.{isMode}
+use Rattle.line.specs.declared.systems.System.{System}
+use Rattle.line.specs.Systems.{systemOf, isSystem}
+use Rattle.line.specs.Check.{fits}
+
+pub no-system : (system : ℕ) → (system ≡ 0 → ⊥) → (system ≡ 1 → ⊥) → (system ≡ 2 → ⊥) → (system ≡ 3 → ⊥) → systemOf system ≡ systemOf 4
+no-system zero a b c d = absurd (a refl)
+no-system (suc zero) a b c d = absurd (b refl)
+no-system (suc (suc zero)) a b c d = absurd (c refl)
+no-system (suc (suc (suc zero))) a b c d = absurd (d refl)
+no-system (suc (suc (suc (suc n)))) a b c d = refl
+
+-- what each row has
+pub record Sound (s : System) : Type 0 where
+  pub room : s .payload + 61 ≤ s .length
+  pub area : 2 ≤ s .payload
+  pub lines : s .lines ≤ 625
+  pub code : s .code ≤ 2
+
+pub sound : (system : ℕ) → isSystem system ≡ true → Sound (systemOf system)
+unfolding isSystem
+sound zero e = record { room = lit≤ tt; area = lit≤ tt; lines = lit≤ tt; code = lit≤ tt }
+sound (suc zero) e = record { room = lit≤ tt; area = lit≤ tt; lines = lit≤ tt; code = lit≤ tt }
+sound (suc (suc zero)) e = record { room = lit≤ tt; area = lit≤ tt; lines = lit≤ tt; code = lit≤ tt }
+sound (suc (suc (suc zero))) e = record { room = lit≤ tt; area = lit≤ tt; lines = lit≤ tt; code = lit≤ tt }
+sound (suc (suc (suc (suc n)))) e = absurd (omega (arith, ltb-true (suc (suc (suc (suc n)))) 4 e))
+
+-- what a line that fits has
+pub record Fit (system mode : ℕ) (line : List ℕ) : Type 0 where
+  pub row : Sound (systemOf system)
+  pub known : isMode mode ≡ true
+  pub long : systemOf system .length ≡ length line
+
+pub fitting : (system mode : ℕ) (line : List ℕ) → fits system mode line ≡ true → Fit system mode line
+unfolding fits
+fitting system mode line e =
+    let a = both-true (isSystem system) _ e in
+    let b = both-true (isMode mode) _ (a .1) in
+    record { row = sound system (a .0); known = b .0; long = sym (eqb-true (length line) (systemOf system .length) (b .1)) }
+
+-- the same of the row at hand
+pub room-of : (system mode : ℕ) (line : List ℕ) (s : System) → s ≡ systemOf system → fits system mode line ≡ true
+    → (s .payload + 61 ≤ s .length) × (s .length ≡ length line)
+room-of system mode line s e f =
+    let k = fitting system mode line f in
+    (subst (λ (x : System). x .payload + 61 ≤ x .length) (sym e) (k .row .room), ap (λ (x : System). x .length) e ∙ k .long)

@@ -1,0 +1,61 @@
+-- `line::area::end_stands` meets its contract. Assumes nothing.
+use mathlib.Core.Path.{sym, ap, _∙_}
+use borrow.Author.Tests.{eq-eqb, ne-eqb}
+use Rattle.lists.proofs.Tests.{pick-true, pick-false}
+use Prim.Native.Nat.{ℕ}
+use mathlib.Core.Path.{ap₂}
+use mathlib.Core.List.{List, [], _∷_}
+use denote.Ref.{now}
+use Rattle.lists.specs.Lists.{same}
+use Rattle.words.specs.Crc.{crcLow, crcHigh, crcWords}
+use Rattle.line.specs.Layout.{endWords}
+use borrow.Author.Needs.{needs}
+use Rattle.line.proofs.area.end_stands.Statement.{statement}
+use Rattle.line.proofs.area.end_stands.Tie as tie
+
+slice-aggregate-same-words : tie.Need-slice-aggregate-same-words
+slice-aggregate-same-words c = search needs
+
+same-words-requires : tie.Need-same-words-requires
+same-words-requires c κs = search needs
+
+returns : tie.Need-returns
+unfolding endWords
+returns c = c .same-words .ensures ∙ ap (same (now (c .before .before .before .before .before .args .end))) (sym (pick-false (crcWords (now (c .before .before .before .before .before .args .area))) [] (ne-eqb (c .before .before .before .before .before .args .flag) 1 (c .before .before .if1 .taken))))
+
+crc-of-requires : tie.Need-crc-of-requires
+crc-of-requires c κs = search needs
+
+crc-low-requires : tie.Need-crc-low-requires
+crc-low-requires c κs = search needs
+
+crc-high-requires : tie.Need-crc-high-requires
+crc-high-requires c κs = search needs
+
+slice-aggregate-same-words-2 : tie.Need-slice-aggregate-same-words-2
+slice-aggregate-same-words-2 c = search needs
+
+same-words-requires-2 : tie.Need-same-words-requires-2
+same-words-requires-2 c κs = search needs
+
+returns-2 : tie.Need-returns-2
+unfolding endWords crcWords
+returns-2 c =
+    c .same-words2 .ensures
+    ∙ ap (same (now (c .before .before .before .before .before .before .before .before .args .end)))
+    (ap₂ (λ (x y : ℕ). x ∷ y ∷ []) (c .before .before .before .crc-low .ensures ∙ ap crcLow (c .before .before .before .before .crc-of .ensures)) (c .before .before .crc-high .ensures ∙ ap crcHigh (c .before .before .before .before .crc-of .ensures))
+    ∙ sym (pick-true (crcWords (now (c .before .before .before .before .before .before .before .before .args .area))) [] (eq-eqb (c .before .before .before .before .before .before .before .before .args .flag) 1 (c .before .before .before .before .before .if1 .left))))
+
+pub end-stands-spec : {M : Type 1} → statement M
+end-stands-spec =
+    tie.close
+    (tie.spec
+    slice-aggregate-same-words
+    same-words-requires
+    returns
+    crc-of-requires
+    crc-low-requires
+    crc-high-requires
+    slice-aggregate-same-words-2
+    same-words-requires-2
+    returns-2)

@@ -1,0 +1,89 @@
+-- `line::area::payload_fault` meets its contract. Assumes nothing.
+use mathlib.Core.Path.{_≡_, ap, ap₂, _∙_}
+use mathlib.Core.Bool.{Bool}
+use mathlib.Core.List.{List}
+use Prim.Native.Nat.{ℕ, _+_, _-_}
+use native.Mathlib.Omega.{arith}
+use denote.Ref.{now}
+use lib.ListN.{length, take, drop, length-drop}
+use lib.Seq.{take-all}
+use Rattle.lists.specs.Tests.{lowest}
+use Rattle.line.specs.Fixed.{isVariable}
+use Rattle.line.specs.Layout.{payloadAt, areaLength, areaOf, endOf}
+use Rattle.line.specs.Check.{areaFaults, payloadFaults}
+use borrow.Author.Needs.{needs}
+use Rattle.line.proofs.area.payload_fault.Statement.{statement}
+use Rattle.line.proofs.area.payload_fault.Tie as tie
+
+sub-start : tie.Need-sub-start
+sub-start c = search needs
+
+area-length-requires : tie.Need-area-length-requires
+area-length-requires c κs = search needs
+
+add-end : tie.Need-add-end
+add-end c = search needs
+
+is-variable-requires : tie.Need-is-variable-requires
+is-variable-requires c κs = search needs
+
+mul-area-fault : tie.Need-mul-area-fault
+mul-area-fault c = search needs
+
+sub-area-fault : tie.Need-sub-area-fault
+sub-area-fault c = search needs
+
+part-area-fault-start : tie.Need-part-area-fault-start
+part-area-fault-start c = search needs
+
+part-area-fault-end : tie.Need-part-area-fault-end
+part-area-fault-end c = search needs
+
+mul-area-fault-2 : tie.Need-mul-area-fault-2
+mul-area-fault-2 c = search needs
+
+sub-area-fault-2 : tie.Need-sub-area-fault-2
+sub-area-fault-2 c = search needs
+
+part-area-fault-start-2 : tie.Need-part-area-fault-start-2
+part-area-fault-start-2 c = search needs
+
+part-area-fault-end-2 : tie.Need-part-area-fault-end-2
+part-area-fault-end-2 c = search needs
+
+area-fault-requires : tie.Need-area-fault-requires
+area-fault-requires c κs = search needs
+
+returns : tie.Need-returns
+unfolding payloadFaults areaOf endOf
+returns c =
+    let a = c .before .before .before .before .before .before .before .args in
+    let line = now (a .line) in
+    let start = a .s .length - a .s .payload in
+    let n = c .before .before .before .before .area-length .result in
+    let long : start + n - start ≡ n = omega arith in
+    let rest : take (length line - (start + n)) (drop (start + n) line) ≡ drop (start + n) line =
+    take-all (length line - (start + n)) (drop (start + n) line) (simp length-drop (omega arith)) in
+    let e = c .before .before .before .before .area-length .ensures .0 in
+    c .area-fault .ensures
+    ∙ ap (λ (b : Bool). lowest 15 (areaFaults (a .mode) b (a .flag) (take (start + n - start) (drop start line)) (take (length line - (start + n)) (drop (start + n) line)))) (c .before .before .before .is-variable .ensures)
+    ∙ ap₂ (λ (x y : List ℕ). lowest 15 (areaFaults (a .mode) (isVariable (a .block)) (a .flag) x y)) (ap (λ (k : ℕ). take k (drop start line)) (long ∙ e)) (rest ∙ ap (λ (k : ℕ). drop (start + k) line) e)
+
+pub payload-fault-spec : {M : Type 1} → statement M
+payload-fault-spec =
+    tie.close
+    (tie.spec
+    sub-start
+    area-length-requires
+    add-end
+    is-variable-requires
+    mul-area-fault
+    sub-area-fault
+    part-area-fault-start
+    part-area-fault-end
+    mul-area-fault-2
+    sub-area-fault-2
+    part-area-fault-start-2
+    part-area-fault-end-2
+    area-fault-requires
+    returns)

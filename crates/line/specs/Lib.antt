@@ -1,0 +1,7 @@
+pub mod Systems
+pub mod Timing
+pub mod Fixed
+pub mod Settings
+pub mod Header
+pub mod Layout
+pub mod Check

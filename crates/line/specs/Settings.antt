@@ -1,0 +1,45 @@
+-- The settings, kept as byte values, and their faults 10 to 14.
+-- Assumes nothing.
+use Prim.Native.Nat.{ℕ, _<_}
+use mathlib.Core.Bool.{Bool, true, not}
+use mathlib.Core.List.{List, [], _∷_}
+use mathlib.Core.Path.{_≡_}
+use lib.Dec.{eqb, ltb}
+use lib.ListN.{length, replicate}
+use Rattle.lists.specs.Tests.{lowest}
+use Rattle.lists.specs.Lists.{each}
+use Rattle.line.specs.declared.settings.Settings.{Settings}
+use Rattle.line.specs.Systems.{systemOf}
+use Rattle.line.specs.Fixed.{blockRefused}
+
+-- settings zero
+abbrev pub noSettings : Settings
+noSettings = record { code = 0; aai = 0; destination = replicate 16 0; source = replicate 16 0; block = 0; flag = 0; reserved = replicate 5 0 }
+
+-- what any value of the type holds: arrays of their lengths, and bytes
+abbrev pub small : ℕ → Bool
+small b = ltb b 256
+
+pub record Held (s : Settings) : Type 0 where
+  pub to : length (s .destination) ≡ 16
+  pub from : length (s .source) ≡ 16
+  pub five : length (s .reserved) ≡ 5
+  pub to-bytes : each small (s .destination) ≡ true
+  pub from-bytes : each small (s .source) ≡ true
+  pub five-bytes : each small (s .reserved) ≡ true
+  pub block-byte : s .block < 256
+  pub flag-byte : s .flag < 256
+
+-- 10: code not the system's; 11: AAI, which is 0 or 1; 12: block type; 13: flag, which is 00h or 01h; 14: a reserved word, each 0
+unfoldable pub settingsFaults : ℕ → Settings → List Bool
+settingsFaults system s =
+    not (eqb (s .code) (systemOf system .code))
+    ∷ ltb 1 (s .aai)
+    ∷ blockRefused (systemOf system .payload) (s .block) (s .flag)
+    ∷ ltb 1 (s .flag)
+    ∷ not (each (eqb 0) (s .reserved))
+    ∷ []
+
+-- the lowest of 10 to 14 that holds, or 0
+unfoldable pub settingsFault : ℕ → Settings → ℕ
+settingsFault system s = lowest 10 (settingsFaults system s)

@@ -1,0 +1,71 @@
+// The line check: for any system number, any mode number and any words, the lowest of 1 and 3 to 16 whose condition holds,
+// or no fault, with the number and the settings that stand in the line.
+use crate::area;
+use crate::head;
+use crate::settings;
+use crate::settings::Settings;
+use crate::systems;
+ghost use mathlib.Core.Path.{_≡_};
+ghost use mathlib.Core.Bool.{true};
+ghost use Rattle.lists.specs.Tests.{lowest};
+ghost use Rattle.line.specs.Check.{settingsOf, faults, fits, faultyWith, checkedOf};
+
+// What the check answers: 01's number of the fault, or 0; and where it is 0, what was read.
+pub struct Checked {
+    pub fault: u8,
+    pub number: u16,
+    pub settings: Settings,
+}
+
+// A system and a mode that there are, and a line of the system's length.
+fn is_fit(system: u8, mode: u8, line: &[u16]) -> bool
+    ensures { λ r. ⌜ r ≡ fits system mode (now (line .entry)) ⌝ }
+{
+    let s = systems::system_of(system);
+    let long = line.len() == s.length;
+    systems::is_system(system) & (words::forms::is_mode(mode) & long)
+}
+
+// The lowest of 3 to 16 that holds of a line that fits, or 0.
+fn fault_of(system: u8, mode: u8, t: Settings, line: &[u16]) -> u8
+    requires { ⌜ (fits system mode (now line) ≡ true) × (t ≡ settingsOf (now line)) ⌝ }
+    ensures { λ r. ⌜ r ≡ lowest 3 (faults system mode (now (line .entry))) ⌝ }
+{
+    let s = systems::system_of(system);
+    let r3 = head::head_fault(s, line);
+    let r10 = settings::settings_fault(system, t);
+    let r15 = area::payload_fault(s, mode, t.block, t.flag, line);
+    lists::or_next(r3, lists::or_next(r10, r15))
+}
+
+// A line with a fault: nothing is read of it.
+fn faulty(fault: u8) -> Checked
+    ensures { λ r. ⌜ r ≡ faultyWith fault ⌝ }
+{
+    let none = settings::no_settings();
+    Checked {
+        fault: fault,
+        number: 0,
+        settings: none,
+    }
+}
+
+// The line check.
+pub fn check(system: u8, mode: u8, line: &[u16]) -> Checked
+    ensures { λ r. ⌜ r ≡ checkedOf system mode (now (line .entry)) ⌝ }
+{
+    if !is_fit(system, mode, line) {
+        return faulty(1);
+    }
+    let t = head::settings_of(line);
+    let fault = fault_of(system, mode, t, line);
+    if fault != 0 {
+        return faulty(fault);
+    }
+    let number = head::number_of(line);
+    Checked {
+        fault: 0,
+        number: number,
+        settings: t,
+    }
+}

@@ -1,0 +1,96 @@
+// The table of fixed blocks. It is a match and no constant array, because a constant array is built anew at each use.
+ghost use mathlib.Core.Path.{_≡_};
+ghost use Rattle.line.specs.Fixed.{fixed, fixedOf, placesOf, sizeOf, isVariable, blockRefused};
+
+// A kind of fixed blocks: size with the type word, and places at each rate.
+pub struct Fixed {
+    pub size: u16,
+    pub at270: u16,
+    pub at360: u16,
+}
+
+fn kind(size: u16, at270: u16, at360: u16) -> Fixed
+    ensures { λ r. ⌜ r ≡ fixed size at270 at360 ⌝ }
+{
+    Fixed {
+        size: size,
+        at270: at270,
+        at360: at360,
+    }
+}
+
+// What B5-B0 of a block type stand for; all 0 where they are not listed.
+pub fn fixed_of(block: u8) -> Fixed
+    ensures { λ r. ⌜ r ≡ fixedOf block ⌝ }
+{
+    let bits = block % 64;
+    match bits {
+        0x01 => kind(1438, 1, 1),
+        0x02 => kind(719, 2, 2),
+        0x03 => kind(479, 3, 4),
+        0x04 => kind(359, 4, 5),
+        0x09 => kind(1918, 0, 1),
+        0x0a => kind(959, 1, 2),
+        0x0b => kind(639, 2, 3),
+        0x11 => kind(766, 1, 2),
+        0x12 => kind(383, 3, 5),
+        0x13 => kind(255, 5, 7),
+        0x14 => kind(191, 7, 10),
+        0x21 => kind(5, 287, 383),
+        0x22 => kind(9, 159, 213),
+        0x23 => kind(13, 110, 147),
+        0x24 => kind(17, 84, 112),
+        0x25 => kind(33, 43, 58),
+        0x26 => kind(49, 29, 39),
+        0x27 => kind(65, 22, 29),
+        0x28 => kind(97, 14, 19),
+        0x29 => kind(129, 11, 14),
+        0x2a => kind(193, 7, 9),
+        0x2b => kind(257, 5, 7),
+        0x2c => kind(385, 3, 4),
+        0x2d => kind(513, 2, 3),
+        0x2e => kind(609, 2, 3),
+        0x31 => kind(62, 23, 30),
+        0x32 => kind(153, 9, 12),
+        0x33 => kind(171, 8, 11),
+        0x34 => kind(177, 8, 10),
+        0x35 => kind(199, 7, 9),
+        0x36 => kind(256, 5, 7),
+        0x37 => kind(144, 10, 13),
+        0x38 => kind(160, 9, 12),
+        _ => kind(0, 0, 0),
+    }
+}
+
+// The size of a block, its type word included.
+pub fn size_of(block: u8) -> u16
+    ensures { λ r. ⌜ r ≡ sizeOf block ⌝ }
+{
+    let x = fixed_of(block);
+    x.size
+}
+
+// The places of a block type where the payload is P words.
+pub fn places_of(payload: usize, block: u8) -> u16
+    ensures { λ r. ⌜ r ≡ placesOf payload block ⌝ }
+{
+    let x = fixed_of(block);
+    if payload == 1440 { x.at270 } else { x.at360 }
+}
+
+// Block type C1h is the variable one.
+pub fn is_variable(block: u8) -> bool
+    ensures { λ r. ⌜ r ≡ isVariable block ⌝ }
+{
+    block == 0xc1
+}
+
+// Block type not listed, none at this rate, or refused with flag 01h.
+pub fn block_refused(payload: usize, block: u8, flag: u8) -> bool
+    ensures { λ r. ⌜ r ≡ blockRefused payload block flag ⌝ }
+{
+    let places = places_of(payload, block) as usize;
+    let size = size_of(block) as usize;
+    let refused = (128 <= block) | ((places == 0) | ((flag == 1) & (places * size == payload)));
+    !is_variable(block) & refused
+}

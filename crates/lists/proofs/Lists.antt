@@ -1,0 +1,133 @@
+-- Laws of parts of a list, of lists that are equal, and of a test of each element.
+-- Assumes nothing.
+use mathlib.Core.Path.{_≡_, refl, sym, ap, ap₂, _∙_, subst}
+use mathlib.Core.Bool.{Bool, true, false, _&&_}
+use mathlib.Core.List.{List, [], _∷_, _++_, map}
+use Prim.Native.Nat.{ℕ, zero, suc, _+_, _-_, _<_, _≤_}
+use native.Mathlib.Nat.{zero-add, suc-add, add-suc, add-zero, le-of-suc-le-suc, not-suc-le-zero}
+use native.Mathlib.Omega.{arith}
+use lib.Dec.{T, eqb}
+use lib.ListN.{length, getD, take, drop, replicate, length-take, length-drop, length-append, length-map, take-append-drop}
+use lib.Seq.{take-add, take-take, drop-drop, take-at, drop-at, drop-cons, getD-take, getD-drop, take-all}
+use borrow.Author.Tests.{eqb-true, eq-eqb}
+use Rattle.lists.specs.Lists.{part, same, each}
+use Rattle.lists.proofs.Tests.{both-true}
+
+-- ---- parts
+pub part-add : (a n m : ℕ) (l : List ℕ) → part a (n + m) l ≡ part a n l ++ part (a + n) m l
+part-add a n m l = take-add n m (drop a l) ∙ ap (λ (x : List ℕ). part a n l ++ take m x) (drop-drop n a l)
+
+pub length-part : (a n : ℕ) (l : List ℕ) → a + n ≤ length l → length (part a n l) ≡ n
+length-part a n l h = simp (length-take, length-drop) (omega arith)
+
+pub getD-part : (a n i : ℕ) (l : List ℕ) → i < n → getD (part a n l) i 0 ≡ getD l (a + i) 0
+getD-part a n i l h = getD-take n (drop a l) i 0 h ∙ getD-drop a l i 0
+
+pub part-two : (a : ℕ) (l : List ℕ) → a + 2 ≤ length l → part a 2 l ≡ getD l a 0 ∷ getD l (suc a) 0 ∷ []
+part-two a l h = ap (take 2) (drop-cons l a 0 (omega arith) ∙ ap (λ (x : List ℕ). getD l a 0 ∷ x) (drop-cons l (suc a) 0 (omega arith)))
+
+pub inside : (i k n : ℕ) (l : List ℕ) → i + k ≤ n → part i k (take n l) ≡ part i k l
+inside zero k n l h = take-take k n l (omega arith)
+inside (suc i) k zero l h = absurd (omega arith)
+inside (suc i) k (suc n) [] h = refl
+inside (suc i) k (suc n) (x ∷ l) h = inside i k n l (omega arith)
+
+pub part-part : (a n i k : ℕ) (l : List ℕ) → i + k ≤ n → part i k (part a n l) ≡ part (a + i) k l
+part-part a n i k l h = inside i k n (drop a l) h ∙ ap (take k) (drop-drop i a l)
+
+-- a part that lies behind what stands in front
+pub part-behind : (xs ys : List ℕ) (a k n : ℕ) → length xs ≡ a → part (a + k) n (xs ++ ys) ≡ part k n ys
+part-behind xs ys a k n e = ap (take n) (sym (drop-drop k a (xs ++ ys)) ∙ ap (drop k) (drop-at xs ys a e))
+
+-- what stands in front
+pub part-front : (xs ys : List ℕ) (n : ℕ) → length xs ≡ n → part 0 n (xs ++ ys) ≡ xs
+part-front xs ys n e = take-at xs ys n e
+
+map-take : (f : ℕ → ℕ) (n : ℕ) (l : List ℕ) → map f (take n l) ≡ take n (map f l)
+map-take f zero l = refl
+map-take f (suc n) [] = refl
+map-take f (suc n) (x ∷ l) = ap (λ (r : List ℕ). f x ∷ r) (map-take f n l)
+
+map-drop : (f : ℕ → ℕ) (n : ℕ) (l : List ℕ) → map f (drop n l) ≡ drop n (map f l)
+map-drop f zero l = refl
+map-drop f (suc n) [] = refl
+map-drop f (suc n) (x ∷ l) = map-drop f n l
+
+pub map-part : (f : ℕ → ℕ) (a n : ℕ) (l : List ℕ) → map f (part a n l) ≡ part a n (map f l)
+map-part f a n l = map-take f n (drop a l) ∙ ap (take n) (map-drop f a l)
+
+pub getD-map-in : (f : ℕ → ℕ) (l : List ℕ) (i : ℕ) → i < length l → getD (map f l) i 0 ≡ f (getD l i 0)
+getD-map-in f [] i h = absurd (omega arith)
+getD-map-in f (x ∷ l) zero h = refl
+getD-map-in f (x ∷ l) (suc i) h = getD-map-in f l i (omega arith)
+
+-- equal lists that fall into parts of equal lengths
+pub append-inj : (xs ys zs ws : List ℕ) → length xs ≡ length ys → xs ++ zs ≡ ys ++ ws → (xs ≡ ys) × (zs ≡ ws)
+append-inj xs ys zs ws l e = (
+  sym (take-at xs zs (length ys) l) ∙ ap (take (length ys)) e ∙ take-at ys ws (length ys) refl,
+  sym (drop-at xs zs (length ys) l) ∙ ap (drop (length ys)) e ∙ drop-at ys ws (length ys) refl,
+)
+
+-- ---- the test of equality
+pub same-eq : (xs ys : List ℕ) → same xs ys ≡ true → xs ≡ ys
+same-eq [] [] e = refl
+same-eq [] (y ∷ ys) e = absurd (subst T (sym e) tt)
+same-eq (x ∷ xs) [] e = absurd (subst T (sym e) tt)
+same-eq (x ∷ xs) (y ∷ ys) e =
+    let b = both-true (eqb x y) (same xs ys) e in
+    ap₂ {B = List ℕ} (λ (z : ℕ) (zs : List ℕ). z ∷ zs) (eqb-true x y (b .0)) (same-eq xs ys (b .1))
+
+same-refl : (xs : List ℕ) → same xs xs ≡ true
+same-refl [] = refl
+same-refl (x ∷ xs) = ap₂ _&&_ (eq-eqb x x refl) (same-refl xs)
+
+pub eq-same : (xs ys : List ℕ) → xs ≡ ys → same xs ys ≡ true
+eq-same xs ys e = ap (same xs) (sym e) ∙ same-refl xs
+
+-- ---- a test of each
+pub each-append : (f : ℕ → Bool) (xs ys : List ℕ) → each f xs ≡ true → each f ys ≡ true → each f (xs ++ ys) ≡ true
+each-append f [] ys p q = q
+each-append f (x ∷ xs) ys p q = let b = both-true (f x) (each f xs) p in ap₂ _&&_ (b .0) (each-append f xs ys (b .1) q)
+
+pub each-at : (f : ℕ → Bool) (xs : List ℕ) (i : ℕ) → i < length xs → each f xs ≡ true → f (getD xs i 0) ≡ true
+each-at f [] i h e = absurd (omega arith)
+each-at f (x ∷ xs) zero h e = both-true (f x) (each f xs) e .0
+each-at f (x ∷ xs) (suc i) h e = each-at f xs i (omega arith) (both-true (f x) (each f xs) e .1)
+
+pub each-all : (f : ℕ → Bool) (xs : List ℕ) → ((i : ℕ) → i < length xs → f (getD xs i 0) ≡ true) → each f xs ≡ true
+each-all f [] p = refl
+each-all f (x ∷ xs) p = ap₂ _&&_ (p 0 (omega arith)) (each-all f xs (λ i h. p (suc i) (omega arith)))
+
+-- two tests that agree wherever a third holds
+pub each-by : (f g h : ℕ → Bool) → ((x : ℕ) → h x ≡ true → f x ≡ true → g x ≡ true) → (xs : List ℕ) → each h xs ≡ true → each f xs ≡ true → each g xs ≡ true
+each-by f g h k [] p q = refl
+each-by f g h k (x ∷ xs) p q =
+    let a = both-true (h x) (each h xs) p in
+    let b = both-true (f x) (each f xs) q in
+    ap₂ _&&_ (k x (a .0) (b .0)) (each-by f g h k xs (a .1) (b .1))
+
+-- a function undone by another at each element that passes a test
+pub map-back : (f g : ℕ → ℕ) (h : ℕ → Bool) → ((x : ℕ) → h x ≡ true → f (g x) ≡ x) → (xs : List ℕ) → each h xs ≡ true → map f (map g xs) ≡ xs
+map-back f g h k [] p = refl
+map-back f g h k (x ∷ xs) p =
+    let b = both-true (h x) (each h xs) p in
+    ap₂ {B = List ℕ} (λ (z : ℕ) (zs : List ℕ). z ∷ zs) (k x (b .0)) (map-back f g h k xs (b .1))
+
+-- what a function makes of elements that pass one test passes another
+pub each-map : (f : ℕ → ℕ) (g h : ℕ → Bool) → ((x : ℕ) → h x ≡ true → g (f x) ≡ true) → (xs : List ℕ) → each h xs ≡ true → each g (map f xs) ≡ true
+each-map f g h k [] p = refl
+each-map f g h k (x ∷ xs) p =
+    let b = both-true (h x) (each h xs) p in ap₂ _&&_ (k x (b .0)) (each-map f g h k xs (b .1))
+
+-- ---- a table as a rule makes it
+abbrev pub tabulate : ℕ → ℕ → (ℕ → ℕ) → List ℕ
+tabulate i zero f = []
+tabulate i (suc n) f = f i ∷ tabulate (suc i) n f
+
+getD-tabulate : (i n : ℕ) (f : ℕ → ℕ) (k : ℕ) → k < n → getD (tabulate i n f) k 0 ≡ f (i + k)
+getD-tabulate i zero f k h = absurd (not-suc-le-zero h)
+getD-tabulate i (suc n) f zero h = ap f (sym (add-zero i))
+getD-tabulate i (suc n) f (suc k) h = getD-tabulate (suc i) n f k (le-of-suc-le-suc h) ∙ ap f (suc-add i k ∙ sym (add-suc i k))
+
+pub at-table : (n : ℕ) (f : ℕ → ℕ) (k : ℕ) → k < n → getD (tabulate 0 n f) k 0 ≡ f k
+at-table n f k h = getD-tabulate 0 n f k h ∙ ap f (zero-add k)

@@ -1,0 +1,79 @@
+-- Laws of loops over lent parts: the next turn, and the end.
+-- Assumes nothing.
+use mathlib.Core.Path.{_≡_, refl, sym, ap, ap₂, _∙_}
+use mathlib.Core.Bool.{Bool, true, false, _&&_}
+use mathlib.Core.List.{List, [], _∷_, _++_, append-assoc, append-nil}
+use Prim.Native.Nat.{ℕ, zero, suc, _+_, _<_, _≤_}
+use native.Mathlib.Nat.{add-zero, add-assoc}
+use native.Mathlib.Numerals.{add-one}
+use native.Mathlib.Omega.{arith}
+use lib.Dec.{eqb}
+use lib.ListN.{length, getD, take, drop, set, drop-of-length-le}
+use lib.Seq.{drop-cons, take-suc, take-suc-set, take-all}
+use Rattle.lists.specs.Lists.{same, each}
+
+pub next-drop : (s : List ℕ) (i : ℕ) → i < length s → drop i s ≡ getD s i 0 ∷ drop (i + 1) s
+next-drop s i h = drop-cons s i 0 h ∙ ap (λ (k : ℕ). getD s i 0 ∷ drop k s) (sym (add-one i))
+
+and-next : (a b c : Bool) → ((a && b) && c) ≡ (a && (b && c))
+and-next true b c = refl
+and-next false b c = refl
+
+and-end : (a : Bool) → (a && true) ≡ a
+and-end true = refl
+and-end false = refl
+
+pub each-next : (f : ℕ → Bool) (ok : Bool) (i : ℕ) (s : List ℕ) → i < length s → ((ok && f (getD s i 0)) && each f (drop (i + 1) s)) ≡ (ok && each f (drop i s))
+each-next f ok i s h = and-next ok (f (getD s i 0)) (each f (drop (i + 1) s)) ∙ ap (λ (l : List ℕ). ok && each f l) (sym (next-drop s i h))
+
+pub each-end : (f : ℕ → Bool) (ok : Bool) (i : ℕ) (s : List ℕ) → length s ≤ i → ok ≡ (ok && each f (drop i s))
+each-end f ok i s h = sym (ap (λ (l : List ℕ). ok && each f l) (drop-of-length-le s h) ∙ and-end ok)
+
+pub same-next : (ok : Bool) (i : ℕ) (s t : List ℕ) → i < length s → i < length t
+    → ((ok && eqb (getD s i 0) (getD t i 0)) && same (drop (i + 1) s) (drop (i + 1) t)) ≡ (ok && same (drop i s) (drop i t))
+same-next ok i s t h k =
+    and-next ok (eqb (getD s i 0) (getD t i 0)) (same (drop (i + 1) s) (drop (i + 1) t))
+    ∙ ap₂ (λ (a b : List ℕ). ok && same a b) (sym (next-drop s i h)) (sym (next-drop t i k))
+
+pub same-end : (ok : Bool) (i : ℕ) (s t : List ℕ) → length s ≤ i → length t ≤ i → ok ≡ (ok && same (drop i s) (drop i t))
+same-end ok i s t h k = sym (ap₂ (λ (a b : List ℕ). ok && same a b) (drop-of-length-le s h) (drop-of-length-le t k) ∙ and-end ok)
+
+pub same-lengths : (s t : List ℕ) → (length s ≡ length t → ⊥) → same s t ≡ false
+same-lengths [] [] h = absurd (h refl)
+same-lengths [] (y ∷ t) h = refl
+same-lengths (x ∷ s) [] h = refl
+same-lengths (x ∷ s) (y ∷ t) h = ap (λ (b : Bool). eqb x y && b) (same-lengths s t (λ e. h (ap suc e))) ∙ never (eqb x y)
+  where
+    never : (b : Bool) → (b && false) ≡ false
+    never true = refl
+    never false = refl
+
+-- ---- words stored one after another
+take-next : (ys : List ℕ) (i : ℕ) → i < length ys → take (i + 1) ys ≡ take i ys ++ (getD ys i 0 ∷ [])
+take-next ys i h = ap (λ (k : ℕ). take k ys) (add-one i) ∙ take-suc ys i 0 h
+
+store-next : (out : List ℕ) (i v : ℕ) → i < length out → take (i + 1) (set out i v) ≡ take i out ++ (v ∷ [])
+store-next out i v h = ap (λ (k : ℕ). take k (set out i v)) (add-one i) ∙ take-suc-set out i v h
+
+pub copy-next : (i v : ℕ) (out ys : List ℕ) → i < length out → i < length ys → v ≡ getD ys i 0
+    → take i out ≡ take i ys → take (i + 1) (set out i v) ≡ take (i + 1) ys
+copy-next i v out ys h k e t = store-next out i v h ∙ ap₂ (λ (l : List ℕ) (x : ℕ). l ++ (x ∷ [])) t e ∙ sym (take-next ys i k)
+
+pub copy-end : (i : ℕ) (out ys : List ℕ) → length out ≤ i → length ys ≤ i → take i out ≡ take i ys → out ≡ ys
+copy-end i out ys h k t = sym (take-all i out h) ∙ t ∙ take-all i ys k
+
+pub lay-next : (at i v : ℕ) (out before ys : List ℕ) → at + i < length out → i < length ys → v ≡ getD ys i 0
+    → take (at + i) out ≡ take at before ++ take i ys → take (at + (i + 1)) (set out (at + i) v) ≡ take at before ++ take (i + 1) ys
+lay-next at i v out before ys h k e t =
+    ap (λ (n : ℕ). take n (set out (at + i) v)) (sym (add-assoc at i 1))
+    ∙ store-next out (at + i) v h
+    ∙ ap₂ (λ (l : List ℕ) (x : ℕ). l ++ (x ∷ [])) t e
+    ∙ append-assoc (take at before) (take i ys) (getD ys i 0 ∷ [])
+    ∙ ap (λ (l : List ℕ). take at before ++ l) (sym (take-next ys i k))
+
+pub lay-none : (at : ℕ) (out : List ℕ) → take (at + 0) out ≡ take at out ++ []
+lay-none at out = ap (λ (n : ℕ). take n out) (add-zero at) ∙ sym (append-nil (take at out))
+
+pub lay-end : (at i : ℕ) (out before ys : List ℕ) → i ≡ length ys → take (at + i) out ≡ take at before ++ take i ys → take (at + length ys) out ≡ take at before ++ ys
+lay-end at i out before ys e t =
+    ap (λ (n : ℕ). take (at + n) out) (sym e) ∙ t ∙ ap (λ (l : List ℕ). take at before ++ l) (take-all i ys (omega arith))

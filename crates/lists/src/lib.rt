@@ -1,0 +1,34 @@
+// What every layer would otherwise say again: two lent parts compared, and the lowest number whose condition holds.
+ghost use mathlib.Core.Path.{_≡_};
+ghost use Rattle.lists.specs.Tests.{pick, orNext};
+ghost use Rattle.lists.specs.Lists.{same};
+
+// The two parts hold the same words. Every word is looked at, so that the loop has no early exit.
+pub fn same_words(s: &[u16], t: &[u16]) -> bool
+    ensures { λ r. ⌜ r ≡ same (now (s .entry)) (now (t .entry)) ⌝ }
+{
+    if s.len() != t.len() {
+        return false;
+    }
+    let mut ok = true;
+    let mut i = 0;
+    while i < s.len() {
+        ok = ok & (s[i] == t[i]);
+        i += 1;
+    }
+    ok
+}
+
+// The number n where its condition holds, else the number that the later conditions gave.
+pub fn or_else(bad: bool, n: u8, later: u8) -> u8
+    ensures { λ r. ⌜ r ≡ pick bad n later ⌝ }
+{
+    if bad { n } else { later }
+}
+
+// The first number unless it is 0, else the next.
+pub fn or_next(first: u8, next: u8) -> u8
+    ensures { λ r. ⌜ r ≡ orNext first next ⌝ }
+{
+    if first == 0 { next } else { first }
+}

@@ -1,0 +1,52 @@
+-- Laws of the classes: what each class says of a word, and what the word of a value is.
+-- Assumes nothing.
+use mathlib.Core.Path.{_≡_, refl, sym, ap, ap₂, _∙_, subst}
+use mathlib.Core.Bool.{Bool, true, false}
+use Prim.Native.Nat.{ℕ, _<_}
+use lib.Dec.{eqb}
+use Rattle.lists.specs.Tests.{pick}
+use Rattle.lists.proofs.Tests.{pick-true, pick-false}
+use Rattle.words.specs.Forms.{isByte, isData, byteWord, dataWord}
+use Rattle.words.specs.Modes.{values, wordOf}
+use Rattle.words.specs.Class.{classOf, classNumber, separator, endCode}
+use Rattle.words.specs.declared.class.Class.{Class}
+use Rattle.words.specs.declared.class.Class.the-variants.{Byte, Other, Separator, Ending, Illegal}
+use Rattle.words.proofs.FormLaws.{byte-in}
+
+-- no two classes have one number
+named : ℕ → Class
+unfolding pick
+named n = pick (eqb n 1) Byte (pick (eqb n 2) Other (pick (eqb n 3) Separator (pick (eqb n 4) Ending Illegal)))
+
+named-back : (k : Class) → named (classNumber k) ≡ k
+unfolding named
+named-back Byte = refl
+named-back Other = refl
+named-back Separator = refl
+named-back Ending = refl
+named-back Illegal = refl
+
+pub class-injective : (a b : Class) → classNumber a ≡ classNumber b → a ≡ b
+class-injective a b e = sym (named-back a) ∙ ap named e ∙ named-back b
+
+-- ---- the class by the tests, in their order
+module _ (w : ℕ) where
+  pub class-byte : isByte w ≡ true → classOf w ≡ Byte
+  unfolding classOf pick
+  class-byte b = simp b
+
+  pub class-other : isByte w ≡ false → isData w ≡ true → classOf w ≡ Other
+  unfolding classOf pick
+  class-other b d = simp (b, d)
+
+  pub class-separator : isByte w ≡ false → isData w ≡ false → eqb w separator ≡ true → classOf w ≡ Separator
+  unfolding classOf pick
+  class-separator b d s = simp (b, d, s)
+
+  pub class-ending : isByte w ≡ false → isData w ≡ false → eqb w separator ≡ false → eqb w endCode ≡ true → classOf w ≡ Ending
+  unfolding classOf pick
+  class-ending b d s e = simp (b, d, s, e)
+
+  pub class-illegal : isByte w ≡ false → isData w ≡ false → eqb w separator ≡ false → eqb w endCode ≡ false → classOf w ≡ Illegal
+  unfolding classOf pick
+  class-illegal b d s e = simp (b, d, s, e)

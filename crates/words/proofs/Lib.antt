@@ -1,0 +1,6 @@
+pub mod Xor
+pub mod FormLaws
+pub mod ClassLaws
+pub mod SumLaws
+pub mod CrcLaws
+pub mod Shifts

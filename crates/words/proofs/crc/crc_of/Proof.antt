@@ -1,0 +1,96 @@
+-- `words::crc::crc_of` meets its contract. Assumes nothing.
+use mathlib.Core.Path.{_≡_, refl, sym, ap, ap₂, _∙_}
+use Prim.Native.Nat.{ℕ, _+_, _-_, _≤_}
+use native.Mathlib.Omega.{arith}
+use denote.Ref.{now}
+use lib.ListN.{length, take, drop, length-take, length-drop}
+use lib.Seq.{take-all}
+use Rattle.words.specs.Crc.{crcOf}
+use Rattle.words.proofs.CrcLaws.{crc-part}
+use borrow.Author.Needs.{needs}
+use Rattle.words.proofs.crc.crc_of.Statement.{statement}
+use Rattle.words.proofs.crc.crc_of.Tie as tie
+
+abbrev Inv-loop : tie.InvT-loop
+Inv-loop c s x₀ i₀ x i = (i ≤ length s) × (crcOf x (drop i s) ≡ crcOf c s)
+
+abbrev μ-loop : tie.MeasureT-loop
+μ-loop c s x₀ i₀ x i = length s - i
+
+loop-holds : tie.Need-loop-holds Inv-loop μ-loop
+loop-holds c = (search needs, refl)
+
+sub-loop : tie.Need-sub-loop Inv-loop μ-loop
+sub-loop c = search needs
+
+add-e : tie.Need-add-e Inv-loop μ-loop
+add-e c = search needs
+
+mul-crc-six : tie.Need-mul-crc-six Inv-loop μ-loop
+mul-crc-six c = search needs
+
+sub-crc-six : tie.Need-sub-crc-six Inv-loop μ-loop
+sub-crc-six c = search needs
+
+part-crc-six-start : tie.Need-part-crc-six-start Inv-loop μ-loop
+part-crc-six-start c = search needs
+
+part-crc-six-end : tie.Need-part-crc-six-end Inv-loop μ-loop
+part-crc-six-end c = search needs
+
+crc-six-requires : tie.Need-crc-six-requires Inv-loop μ-loop
+crc-six-requires c κs = search needs
+
+loop-less : tie.Need-loop-less Inv-loop μ-loop
+loop-less c = search needs
+
+loop-again : tie.Need-loop-again Inv-loop μ-loop
+loop-again c =
+    let l = c .before .before .before .loop in
+    let s = now (c .before .before .before .before .before .args .s) in
+    let six : l .i + 6 - l .i ≡ 6 = omega arith in
+    (search needs, ap (λ (r : ℕ). crcOf r (drop (l .i + 6) s)) (c .crc-six .ensures ∙ ap (λ (n : ℕ). crcOf (l .x) (take n (drop (l .i) s))) six) ∙ crc-part (l .x) (l .i) 6 s ∙ l .inv .1)
+
+mul-crc-each : tie.Need-mul-crc-each Inv-loop μ-loop
+mul-crc-each c = search needs
+
+sub-crc-each : tie.Need-sub-crc-each Inv-loop μ-loop
+sub-crc-each c = search needs
+
+part-crc-each-start : tie.Need-part-crc-each-start Inv-loop μ-loop
+part-crc-each-start c = search needs
+
+part-crc-each-end : tie.Need-part-crc-each-end Inv-loop μ-loop
+part-crc-each-end c = search needs
+
+crc-each-requires : tie.Need-crc-each-requires Inv-loop μ-loop
+crc-each-requires c κs = search needs
+
+returns : tie.Need-returns Inv-loop μ-loop
+returns c =
+    let l = c .before .before .before .loop in
+    let s = now (c .before .before .before .before .before .args .s) in
+    c .crc-each .ensures ∙ ap (crcOf (l .x)) (take-all (length s - l .i) (drop (l .i) s) (simp length-drop (omega arith))) ∙ l .inv .1
+
+pub crc-of-spec : {M : Type 1} → statement M
+crc-of-spec =
+    tie.close
+    (tie.spec
+    Inv-loop
+    μ-loop
+    loop-holds
+    sub-loop
+    add-e
+    mul-crc-six
+    sub-crc-six
+    part-crc-six-start
+    part-crc-six-end
+    crc-six-requires
+    loop-less
+    loop-again
+    mul-crc-each
+    sub-crc-each
+    part-crc-each-start
+    part-crc-each-end
+    crc-each-requires
+    returns)

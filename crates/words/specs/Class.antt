@@ -1,0 +1,29 @@
+-- What a word of the payload is.
+-- Assumes nothing.
+use Prim.Native.Nat.{ℕ}
+use mathlib.Core.Bool.{Bool}
+use lib.Dec.{eqb}
+use Rattle.lists.specs.Tests.{pick}
+use Rattle.words.specs.Forms.{isByte, isData}
+use Rattle.words.specs.declared.class.Class.{Class}
+use Rattle.words.specs.declared.class.Class.the-variants.{Byte, Other, Separator, Ending, Illegal}
+
+-- the separator 309h, and the end code 30Ah
+abbrev pub separator : ℕ
+separator = 0x309
+
+abbrev pub endCode : ℕ
+endCode = 0x30a
+
+-- byte form; other data form; separator; end code; illegal: every other word, 400h and above too
+unfoldable pub classOf : ℕ → Class
+unfolding pick
+classOf w = pick (isByte w) Byte (pick (isData w) Other (pick (eqb w separator) Separator (pick (eqb w endCode) Ending Illegal)))
+
+-- the classes by number, in that order, from 1
+abbrev pub classNumber : Class → ℕ
+classNumber Byte = 1
+classNumber Other = 2
+classNumber Separator = 3
+classNumber Ending = 4
+classNumber Illegal = 5

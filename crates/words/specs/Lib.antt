@@ -1,0 +1,6 @@
+pub mod Forms
+pub mod Modes
+pub mod Class
+pub mod Checksum
+pub mod Crc
+pub mod Shifts

@@ -1,0 +1,31 @@
+// What a word of the payload is. Every decision about a payload word goes through class_of.
+use crate::forms;
+ghost use mathlib.Core.Path.{_≡_};
+ghost use Rattle.words.specs.Class.{classOf};
+
+pub enum Class {
+    Byte, // byte form
+    Other, // data form, and not byte form
+    Separator, // 309h
+    Ending, // 30Ah
+    Illegal, // every other number, 400h and above too
+}
+
+// The class of a word.
+pub fn class_of(w: u16) -> Class
+    ensures { λ r. ⌜ r ≡ classOf w ⌝ }
+{
+    if forms::is_byte(w) {
+        return Class::Byte;
+    }
+    if forms::is_data(w) {
+        return Class::Other;
+    }
+    if w == 0x309 {
+        return Class::Separator;
+    }
+    if w == 0x30a {
+        return Class::Ending;
+    }
+    Class::Illegal
+}

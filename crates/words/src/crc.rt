@@ -1,0 +1,93 @@
+// The 18-bit CRC of a lent part, from any register. 01 says it bit by bit. What the bits feed back comes round again only
+// after 13 steps, so that a word, or six words at once, go by shifts; both are proved equal to the bits.
+use crate::forms;
+ghost use mathlib.Core.Path.{_≡_};
+ghost use Prim.Native.Nat.{_%_, _^_, _<_};
+ghost use lib.ListN.{length, replicate};
+ghost use Rattle.words.specs.Shifts.{fed};
+ghost use Rattle.words.specs.Crc.{crcBits, crcOf, crcLow, crcHigh, lowBits};
+
+// The register after a word's ten bits.
+fn crc_word(c: u32, w: u16) -> u32
+    ensures { λ r. ⌜ r ≡ crcBits c (lowBits 10 w) ⌝ }
+{
+    let x = (c ^ (w as u32)) % 1024;
+    (c / 1024) ^ (x * 256) ^ (x * 16) ^ (x * 8)
+}
+
+// A number and what it feeds back at three distances.
+fn feed(x: u64, i: u32, j: u32, k: u32) -> u64
+    requires { ⌜ (i < 64) × ((j < 64) × (k < 64)) ⌝ }
+    ensures { λ r. ⌜ r ≡ fed i j k x ⌝ }
+{
+    x ^ (x << i) ^ (x << j) ^ (x << k)
+}
+
+// The register after sixty bits that are 0: what is fed back once, what that feeds back, and what that does.
+fn after_sixty(x: u64) -> u32
+    requires { ⌜ x < 2 ^ 60 ⌝ }
+    ensures { λ r. ⌜ r ≡ crcBits x (replicate 60 0) ⌝ }
+{
+    let once = feed(x, 13, 14, 18);
+    let twice = feed(once, 26, 28, 36);
+    let f = feed(twice, 52, 56, 60) % 0x1000000000000000;
+    ((f >> 42) ^ (f >> 46) ^ (f >> 47)) as u32
+}
+
+// The ten bits of a word.
+fn ten(w: u16) -> u64
+    ensures { λ r. ⌜ (r ≡ w % 1024) × (r < 1024) ⌝ }
+{
+    (w % 1024) as u64
+}
+
+// The register after six words.
+fn crc_six(c: u32, s: &[u16]) -> u32
+    requires { ⌜ length (now s) ≡ 6 ⌝ }
+    ensures { λ r. ⌜ r ≡ crcOf c (now (s .entry)) ⌝ }
+{
+    let upper = (ten(s[5]) * 1024 + ten(s[4])) * 1024 + ten(s[3]);
+    let lower = (ten(s[2]) * 1024 + ten(s[1])) * 1024 + ten(s[0]);
+    after_sixty((c as u64) ^ (upper * 1073741824 + lower))
+}
+
+// The register after the words, one by one.
+fn crc_each(c: u32, s: &[u16]) -> u32
+    ensures { λ r. ⌜ r ≡ crcOf c (now (s .entry)) ⌝ }
+{
+    let mut x = c;
+    let mut i = 0;
+    while i < s.len() {
+        x = crc_word(x, s[i]);
+        i += 1;
+    }
+    x
+}
+
+// The register after the words, from the register c: six at a time, then what is left.
+pub fn crc_of(c: u32, s: &[u16]) -> u32
+    ensures { λ r. ⌜ r ≡ crcOf c (now (s .entry)) ⌝ }
+{
+    let mut x = c;
+    let mut i = 0;
+    while 6 <= s.len() - i {
+        let e = i + 6;
+        x = crc_six(x, &s[i..e]);
+        i = e;
+    }
+    crc_each(x, &s[i..])
+}
+
+// The first CRC word of a register: C8-C0.
+pub fn crc_low(c: u32) -> u16
+    ensures { λ r. ⌜ r ≡ crcLow c ⌝ }
+{
+    forms::data_word((c % 512) as u16)
+}
+
+// The second CRC word of a register: C17-C9.
+pub fn crc_high(c: u32) -> u16
+    ensures { λ r. ⌜ r ≡ crcHigh c ⌝ }
+{
+    forms::data_word((c / 512 % 512) as u16)
+}
