@@ -3,3 +3,5 @@ pub mod FixedLaws
 pub mod AreaLaws
 pub mod CheckLaws
 pub mod Written
+pub mod Headers
+pub mod Lines

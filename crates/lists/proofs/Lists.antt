@@ -35,9 +35,12 @@ inside (suc i) k (suc n) (x ∷ l) h = inside i k n l (omega arith)
 pub part-part : (a n i k : ℕ) (l : List ℕ) → i + k ≤ n → part i k (part a n l) ≡ part (a + i) k l
 part-part a n i k l h = inside i k n (drop a l) h ∙ ap (take k) (drop-drop i a l)
 
--- a part that lies behind what stands in front
+-- what lies behind what stands in front
+pub drop-behind : (xs ys : List ℕ) (a k : ℕ) → length xs ≡ a → drop (a + k) (xs ++ ys) ≡ drop k ys
+drop-behind xs ys a k e = sym (drop-drop k a (xs ++ ys)) ∙ ap (drop k) (drop-at xs ys a e)
+
 pub part-behind : (xs ys : List ℕ) (a k n : ℕ) → length xs ≡ a → part (a + k) n (xs ++ ys) ≡ part k n ys
-part-behind xs ys a k n e = ap (take n) (sym (drop-drop k a (xs ++ ys)) ∙ ap (drop k) (drop-at xs ys a e))
+part-behind xs ys a k n e = ap (take n) (drop-behind xs ys a k e)
 
 -- what stands in front
 pub part-front : (xs ys : List ℕ) (n : ℕ) → length xs ≡ n → part 0 n (xs ++ ys) ≡ xs
