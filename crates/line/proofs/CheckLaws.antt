@@ -6,6 +6,7 @@ use mathlib.Core.List.{List}
 use Prim.Native.Nat.{ℕ, zero, suc}
 use Rattle.lists.specs.Tests.{lowest}
 use Rattle.lists.proofs.Tests.{pick-true, pick-false}
+use Rattle.line.specs.Systems.{systemOf}
 use Rattle.line.specs.Check.{fits, faults, lineFault, faultyWith, checkedFrom, checkedOf}
 
 fault-from : (n : ℕ) (line : List ℕ) → (n ≡ 0 → ⊥) → checkedFrom n line ≡ faultyWith n
@@ -15,11 +16,11 @@ fault-from (suc n) line h = refl
 module _ (system mode : ℕ) (line : List ℕ) where
   pub answer-1 : fits system mode line ≡ false → checkedOf system mode line ≡ faultyWith 1
   unfolding checkedOf lineFault
-  answer-1 f = ap (λ (n : ℕ). checkedFrom n line) (pick-false (lowest 3 (faults system mode line)) 1 f)
+  answer-1 f = ap (λ (n : ℕ). checkedFrom n line) (pick-false (lowest 3 (faults (systemOf system) mode line)) 1 f)
 
-  pub answer-found : (n : ℕ) → fits system mode line ≡ true → n ≡ lowest 3 (faults system mode line) → checkedOf system mode line ≡ checkedFrom n line
+  pub answer-found : (n : ℕ) → fits system mode line ≡ true → n ≡ lowest 3 (faults (systemOf system) mode line) → checkedOf system mode line ≡ checkedFrom n line
   unfolding checkedOf lineFault
-  answer-found n f e = ap (λ (k : ℕ). checkedFrom k line) (pick-true (lowest 3 (faults system mode line)) 1 f ∙ sym e)
+  answer-found n f e = ap (λ (k : ℕ). checkedFrom k line) (pick-true (lowest 3 (faults (systemOf system) mode line)) 1 f ∙ sym e)
 
-  pub answer-fault : (n : ℕ) → fits system mode line ≡ true → n ≡ lowest 3 (faults system mode line) → (n ≡ 0 → ⊥) → checkedOf system mode line ≡ faultyWith n
+  pub answer-fault : (n : ℕ) → fits system mode line ≡ true → n ≡ lowest 3 (faults (systemOf system) mode line) → (n ≡ 0 → ⊥) → checkedOf system mode line ≡ faultyWith n
   answer-fault n f e h = answer-found n f e ∙ fault-from n line h

@@ -3,14 +3,17 @@
 use mathlib.Core.Path.{_≡_, refl, sym, ap, ap₂, _∙_, subst}
 use mathlib.Core.Bool.{Bool, true, false, _&&_, _||_, not}
 use mathlib.Core.List.{List, [], _∷_}
-use Prim.Native.Nat.{ℕ, _*_, _%_, _^_, _<_, _≤_}
-use native.Mathlib.Nat.{mod-lt, lt-of-le-of-lt, le-of-lt, mul-le-mul-left, mul-lt-mul-of-pos-right}
+use Prim.Native.Nat.{ℕ, zero, suc, _-_, _*_, _%_, _^_, _<_, _≤_}
+use native.Mathlib.Omega.{arith}
+use native.Mathlib.Nat.{mod-lt, mod-mod, lt-of-le-of-lt, le-of-lt, mul-le-mul-left, mul-lt-mul-of-pos-right}
 use lib.Dec.{T, eqb, leb, ltb, lit<, leb→le}
-use borrow.Author.Tests.{ne-eqb}
+use borrow.Author.Tests.{ne-eqb, ltb-true, leb-true}
 use Rattle.lists.specs.Tests.{pick}
-use Rattle.lists.proofs.Tests.{below, agree, agree→eq, pick-false}
+use Rattle.lists.proofs.Tests.{all, below, agree, agree→eq, pick-false}
 use Rattle.line.specs.declared.fixed.Fixed.{Fixed}
-use Rattle.line.specs.Fixed.{Row, table, find, fixed, fixedOf, placesOf, sizeOf, fillsAll}
+use Rattle.line.specs.Systems.{systemOf, isSystem}
+use Rattle.line.specs.Layout.{areaLength}
+use Rattle.line.specs.Fixed.{Row, table, find, fixed, fixedOf, placesOf, sizeOf, fillsAll, isVariable, blockRefused}
 
 -- ---- what is not listed
 -- k is in none of the rows; the first row stands innermost, as the last arm of a match has it
@@ -28,11 +31,76 @@ pub unlisted : (block : ℕ) → Missed table (Unit {0}) (block % 64) → fixedO
 unfolding fixedOf
 unlisted block m = find-missed table (Unit {0}) (block % 64) m .1
 
--- ---- the kinds are 64, so that a rule of all of them is one computed test
--- only B5-B0 count
-by-bits : (f : ℕ → Bool) → ((block : ℕ) → f block ≡ f (block % 64)) → T (Rattle.lists.proofs.Tests.all 64 f) → (block : ℕ) → T (f block)
-by-bits f same t block = subst T (sym (same block)) (below 64 f t (block % 64) (mod-lt block (lit< tt)))
-
 -- two numbers of 16 bits have a product of 32
 pub product-lt : {a b : ℕ} → a < 2 ^ 16 → b < 2 ^ 16 → a * b < 2 ^ 32
 product-lt {a} {b} ha hb = lt-of-le-of-lt (mul-le-mul-left a (le-of-lt hb)) (mul-lt-mul-of-pos-right ha (lit< tt))
+
+-- ---- the kinds are 64, so that a rule of all of them is one computed test
+fixed-bits : (block : ℕ) → fixedOf block ≡ fixedOf (block % 64)
+unfolding fixedOf
+fixed-bits block = ap (λ (k : ℕ). find k table) (sym (mod-mod block 64))
+
+-- a rule of sizes and places that holds of each kind holds of each block type, whatever B7 and B6 are
+by-kind : (f : ℕ → ℕ → Bool) (p : ℕ) → T (all 64 (λ k. f (placesOf p k) (sizeOf k))) → (block : ℕ) → T (f (placesOf p block) (sizeOf block))
+unfolding placesOf sizeOf
+by-kind f p t block =
+    subst (λ (x : Fixed). T (f (pick (eqb p 1440) (x .at270) (x .at360)) (x .size))) (sym (fixed-bits block))
+    (below 64 (λ k. f (placesOf p k) (sizeOf k)) t (block % 64) (mod-lt block (lit< tt)))
+
+-- the places fit into the payload, and leave two words where they do not fill it
+abbrev fitting : ℕ → ℕ → ℕ → Bool
+fitting p places size = leb (places * size) p && (eqb (places * size) p || leb (places * size) (p - 2))
+
+fits-270 : (block : ℕ) → T (fitting 1440 (placesOf 1440 block) (sizeOf block))
+unfolding placesOf sizeOf fixedOf table pick
+fits-270 block = by-kind (fitting 1440) 1440 tt block
+
+fits-360 : (block : ℕ) → T (fitting 1920 (placesOf 1920 block) (sizeOf block))
+unfolding placesOf sizeOf fixedOf table pick
+fits-360 block = by-kind (fitting 1920) 1920 tt block
+
+-- 01's list: 37h at 270 and 38h at both rates fill all P words, and no other kind does
+abbrev named : ℕ → ℕ → Bool
+named p k = (eqb k 0x37 && eqb p 1440) || eqb k 0x38
+
+pub fills-270 : (k : ℕ) → k < 64 → fillsAll 1440 k ≡ named 1440 k
+unfolding fillsAll placesOf sizeOf fixedOf table pick
+fills-270 k h = agree→eq (fillsAll 1440 k) (named 1440 k) (below 64 (λ k. agree (fillsAll 1440 k) (named 1440 k)) tt k h)
+
+pub fills-360 : (k : ℕ) → k < 64 → fillsAll 1920 k ≡ named 1920 k
+unfolding fillsAll placesOf sizeOf fixedOf table pick
+fills-360 k h = agree→eq (fillsAll 1920 k) (named 1920 k) (below 64 (λ k. agree (fillsAll 1920 k) (named 1920 k)) tt k h)
+
+-- the payload of a system is one of the two
+payloads : (system : ℕ) → isSystem system ≡ true → (P : ℕ → Type 0) → P 1440 → P 1920 → P (systemOf system .payload)
+unfolding isSystem
+payloads zero e P a b = a
+payloads (suc zero) e P a b = a
+payloads (suc (suc zero)) e P a b = b
+payloads (suc (suc (suc zero))) e P a b = b
+payloads (suc (suc (suc (suc n)))) e P a b = absurd (omega (arith, ltb-true (suc (suc (suc (suc n)))) 4 e))
+
+area-by : (p q : ℕ) (f e l m : Bool) → leb q p ≡ l → leb q (p - 2) ≡ m → T (l && (e || m)) → (f && e) ≡ false → q ≤ pick f (p - 2) p
+unfolding pick
+area-by p q f e false m x y z r = absurd z
+area-by p q false e true m x y z r = leb-true q p x
+area-by p q true true true m x y z r = absurd (subst T r tt)
+area-by p q true false true false x y z r = absurd z
+area-by p q true false true true x y z r = leb-true q (p - 2) y
+
+refused-not : (v a b r : Bool) → v ≡ false → (not v && (a || (b || r))) ≡ false → r ≡ false
+refused-not true a b r e x = absurd (subst T e tt)
+refused-not false true b r e x = absurd (subst T x tt)
+refused-not false false true r e x = absurd (subst T x tt)
+refused-not false false false r e x = x
+
+-- the places of a block type that 12 lets pass lie in the area, whatever the flag
+pub places-in-area : (system : ℕ) → isSystem system ≡ true → (block flag : ℕ) → isVariable block ≡ false → blockRefused (systemOf system .payload) block flag ≡ false
+    → placesOf (systemOf system .payload) block * sizeOf block ≤ areaLength (systemOf system .payload) flag
+unfolding areaLength blockRefused fillsAll
+places-in-area system known block flag fixed pass =
+    let p = systemOf system .payload in
+    let q = placesOf p block * sizeOf block in
+    let fit : T (fitting p (placesOf p block) (sizeOf block)) = payloads system known (λ p. T (fitting p (placesOf p block) (sizeOf block))) (fits-270 block) (fits-360 block) in
+    area-by p q (eqb flag 1) (eqb q p) (leb q p) (leb q (p - 2)) refl refl fit
+    (refused-not (isVariable block) (leb 128 block) (eqb (placesOf p block) 0) (eqb flag 1 && eqb q p) fixed pass)

@@ -5,3 +5,4 @@ pub mod CheckLaws
 pub mod Written
 pub mod Headers
 pub mod Lines
+pub mod Examples

@@ -35,10 +35,10 @@ use Rattle.line.proofs.Headers.{head-again, header-length, crc-formed, 
 pub written-again : (system mode : ℕ) (line : List ℕ) → lineFault system mode line ≡ 0 → part 4 53 line ≡ headerWords (numberOf line) (settingsOf line)
 unfolding lineFault faults
 written-again system mode line e =
-    let p = picked (fits system mode line) (lowest 3 (faults system mode line)) e in
+    let p = picked (fits system mode line) (lowest 3 (faults (systemOf system) mode line)) e in
     let k = fitting system mode line (p .0) in
     let long : 57 ≤ length line = omega (arith, k .row .room, k .long) in
-    head-again line long (systemOf system) (clear-split (headFaults (systemOf system) line) _ (lowest-clear 2 (faults system mode line) (p .1)) .0)
+    head-again line long (systemOf system) (clear-split (headFaults (systemOf system) line) _ (lowest-clear 2 (faults (systemOf system) mode line) (p .1)) .0)
 
 -- ---- six pieces, one after another
 pub record Six : Type 0 where
@@ -189,9 +189,9 @@ module _ (system mode : ℕ) (f v : Bool) (n : ℕ) (s : Settings) (area : List 
       omega (arith, gap-is, area-is, row .room) in
       ap (drop (payloadAt (systemOf system) + areaLength (systemOf system .payload) (s .flag))) built-of ∙ at-end six _ at
 
-  clear-settings : Clear (settingsFaults system s)
+  clear-settings : Clear (settingsFaults (systemOf system) s)
   unfolding settingsFault
-  clear-settings = lowest-clear 9 (settingsFaults system s) (b .clean)
+  clear-settings = lowest-clear 9 (settingsFaults (systemOf system) s) (b .clean)
 
   read : ReadBack (systemOf system) built n s
   unfolding settingsFaults six
@@ -208,16 +208,16 @@ module _ (system mode : ℕ) (f v : Bool) (n : ℕ) (s : Settings) (area : List 
   unfolding payloadFaults areaFaults
   clear-area = (
     ap not
-    (ap₂ _&&_ (ap (each (legal mode (isVariable (s .block)))) area-built ∙ b .legals) (ap (each isData) end-built ∙ end-formed (s .flag) area)),
+        (ap₂ _&&_ (ap (each (legal mode (isVariable (s .block)))) area-built ∙ b .legals) (ap (each isData) end-built ∙ end-formed (s .flag) area)),
     (ap not (eq-same (endOf (systemOf system) (s .flag) built) _ (end-built ∙ ap (endWords (s .flag)) (sym area-built))), tt),
   )
 
-  clear-faults : Clear (faults system mode built)
+  clear-faults : Clear (faults (systemOf system) mode built)
   unfolding faults
   clear-faults =
       clear-append (headFaults (systemOf system) built) _ (read .clear)
-      (subst (λ (t : Settings). Clear (settingsFaults system t ++ payloadFaults (systemOf system) mode (t .block) (t .flag) built)) (sym (read .settings))
-      (clear-append (settingsFaults system s) (payloadFaults (systemOf system) mode (s .block) (s .flag) built) clear-settings clear-area))
+      (subst (λ (t : Settings). Clear (settingsFaults (systemOf system) t ++ payloadFaults (systemOf system) mode (t .block) (t .flag) built)) (sym (read .settings))
+      (clear-append (settingsFaults (systemOf system) s) (payloadFaults (systemOf system) mode (s .block) (s .flag) built) clear-settings clear-area))
 
   fits-built : fits system mode built ≡ true
   unfolding fits
@@ -229,7 +229,7 @@ module _ (system mode : ℕ) (f v : Bool) (n : ℕ) (s : Settings) (area : List 
   accepted = record {
     long = long-built;
     checked =
-        ap (λ (k : ℕ). checkedFrom k built) (pick-true (lowest 3 (faults system mode built)) 1 fits-built ∙ clear-lowest 3 (faults system mode built) clear-faults)
+        ap (λ (k : ℕ). checkedFrom k built) (pick-true (lowest 3 (faults (systemOf system) mode built)) 1 fits-built ∙ clear-lowest 3 (faults (systemOf system) mode built) clear-faults)
         ∙ ap₂ (λ (k : ℕ) (t : Settings). record { fault = 0; number = k; settings = t }) (read .number) (read .settings);
     area-back = area-built;
   }

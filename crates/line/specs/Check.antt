@@ -90,18 +90,18 @@ unfoldable pub payloadFaults : System → ℕ → ℕ → ℕ → List ℕ → L
 payloadFaults s mode block flag line = areaFaults mode (isVariable block) flag (areaOf s flag line) (endOf s flag line)
 
 -- ---- the lowest number whose condition holds
--- 3 to 9, 10 to 14, 15 and 16
-unfoldable pub faults : ℕ → ℕ → List ℕ → List Bool
-faults system mode line =
+-- 3 to 9, 10 to 14, 15 and 16: of any system, by its L, P, N and code
+unfoldable pub faults : System → ℕ → List ℕ → List Bool
+faults row mode line =
     let t = settingsOf line in
-    headFaults (systemOf system) line ++ (settingsFaults system t ++ payloadFaults (systemOf system) mode (t .block) (t .flag) line)
+    headFaults row line ++ (settingsFaults row t ++ payloadFaults row mode (t .block) (t .flag) line)
 
 -- 1: unknown system or mode; line not L long
 unfoldable pub fits : ℕ → ℕ → List ℕ → Bool
 fits system mode line = isSystem system && (isMode mode && eqb (length line) (systemOf system .length))
 
 unfoldable pub lineFault : ℕ → ℕ → List ℕ → ℕ
-lineFault system mode line = pick (fits system mode line) (lowest 3 (faults system mode line)) 1
+lineFault system mode line = pick (fits system mode line) (lowest 3 (faults (systemOf system) mode line)) 1
 
 -- ---- what the check answers: the fault, or 0 with the number and the settings that stand there
 abbrev pub faultyWith : ℕ → Checked

@@ -9,6 +9,7 @@ use lib.ListN.{length, replicate}
 use Rattle.lists.specs.Tests.{lowest}
 use Rattle.lists.specs.Lists.{each}
 use Rattle.line.specs.declared.settings.Settings.{Settings}
+use Rattle.line.specs.declared.systems.System.{System}
 use Rattle.line.specs.Systems.{systemOf}
 use Rattle.line.specs.Fixed.{blockRefused}
 
@@ -31,15 +32,15 @@ pub record Held (s : Settings) : Type 0 where
   pub flag-byte : s .flag < 256
 
 -- 10: code not the system's; 11: AAI, which is 0 or 1; 12: block type; 13: flag, which is 00h or 01h; 14: a reserved word, each 0
-unfoldable pub settingsFaults : ℕ → Settings → List Bool
-settingsFaults system s =
-    not (eqb (s .code) (systemOf system .code))
+unfoldable pub settingsFaults : System → Settings → List Bool
+settingsFaults row s =
+    not (eqb (s .code) (row .code))
     ∷ ltb 1 (s .aai)
-    ∷ blockRefused (systemOf system .payload) (s .block) (s .flag)
+    ∷ blockRefused (row .payload) (s .block) (s .flag)
     ∷ ltb 1 (s .flag)
     ∷ not (each (eqb 0) (s .reserved))
     ∷ []
 
 -- the lowest of 10 to 14 that holds, or 0
 unfoldable pub settingsFault : ℕ → Settings → ℕ
-settingsFault system s = lowest 10 (settingsFaults system s)
+settingsFault system s = lowest 10 (settingsFaults (systemOf system) s)

@@ -8,6 +8,7 @@ use crate::systems;
 ghost use mathlib.Core.Path.{_≡_};
 ghost use mathlib.Core.Bool.{true};
 ghost use Rattle.lists.specs.Tests.{lowest};
+ghost use Rattle.line.specs.Systems.{systemOf};
 ghost use Rattle.line.specs.Check.{settingsOf, faults, fits, faultyWith, checkedOf};
 
 // What the check answers: 01's number of the fault, or 0; and where it is 0, what was read.
@@ -29,7 +30,7 @@ fn is_fit(system: u8, mode: u8, line: &[u16]) -> bool
 // The lowest of 3 to 16 that holds of a line that fits, or 0.
 fn fault_of(system: u8, mode: u8, t: Settings, line: &[u16]) -> u8
     requires { ⌜ (fits system mode (now line) ≡ true) × (t ≡ settingsOf (now line)) ⌝ }
-    ensures { λ r. ⌜ r ≡ lowest 3 (faults system mode (now (line .entry))) ⌝ }
+    ensures { λ r. ⌜ r ≡ lowest 3 (faults (systemOf system) mode (now (line .entry))) ⌝ }
 {
     let s = systems::system_of(system);
     let r3 = head::head_fault(s, line);

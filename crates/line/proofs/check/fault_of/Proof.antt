@@ -50,8 +50,8 @@ returns c =
     ∙ ap₂ orNext (c .before .before .before .before .head-fault .ensures ∙ ap (λ (x : System). lowest 3 (headFaults x line)) s)
     (c .before .or-next .ensures
     ∙ ap₂ orNext (c .before .before .before .settings-fault .ensures ∙ ap (settingsFault (a .system)) t) (c .before .before .payload-fault .ensures ∙ ap₂ (λ (x : System) (y : Settings). lowest 15 (payload x y)) s t)
-    ∙ sym (lowest-append 9 5 (settingsFaults (a .system) (settingsOf line)) (payload (systemOf (a .system)) (settingsOf line)) refl))
-    ∙ sym (lowest-append 2 7 (headFaults (systemOf (a .system)) line) (settingsFaults (a .system) (settingsOf line) ++ payload (systemOf (a .system)) (settingsOf line)) refl)
+    ∙ sym (lowest-append 9 5 (settingsFaults (systemOf (a .system)) (settingsOf line)) (payload (systemOf (a .system)) (settingsOf line)) refl))
+    ∙ sym (lowest-append 2 7 (headFaults (systemOf (a .system)) line) (settingsFaults (systemOf (a .system)) (settingsOf line) ++ payload (systemOf (a .system)) (settingsOf line)) refl)
 
 pub fault-of-spec : {M : Type 1} → statement M
 fault-of-spec =

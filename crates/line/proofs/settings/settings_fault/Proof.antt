@@ -4,6 +4,7 @@ use mathlib.Core.Bool.{not}
 use lib.Dec.{eqb}
 use Rattle.lists.proofs.Tests.{Lowest, no-more, low-step}
 use Rattle.line.specs.declared.systems.System.{System}
+use Rattle.line.specs.Systems.{systemOf}
 use Rattle.line.specs.Fixed.{blockRefused}
 use Rattle.line.specs.Settings.{settingsFault, settingsFaults}
 use borrow.Author.Needs.{needs}
@@ -42,7 +43,7 @@ unfolding settingsFault settingsFaults
 returns c =
     let a = c .before .before .before .before .before .before .before .before .before .before .before .before .before .before .args in
     let s = c .before .before .before .before .before .before .before .before .before .before .before .before .before .system-of .ensures in
-    let lowest : Lowest 10 (settingsFaults (a .system) (a .settings)) (c .or-else5 .result) =
+    let lowest : Lowest 10 (settingsFaults (systemOf (a .system)) (a .settings)) (c .or-else5 .result) =
     low-step 10 (c .or-else5 .ensures) (ap (λ (x : System). not (eqb (a .settings .code) (x .code))) s)
     (low-step 11 (c .before .before .before .or-else4 .ensures) refl
     (low-step 12 (c .before .before .before .before .before .or-else3 .ensures) (c .before .before .before .before .before .before .before .before .before .before .before .before .block-refused .ensures ∙ ap (λ (x : System). blockRefused (x .payload) (a .settings .block) (a .settings .flag)) s)
