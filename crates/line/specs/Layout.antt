@@ -35,13 +35,15 @@ areaLength p flag = pick (eqb flag 1) (p - 2) p
 unfoldable pub endWords : ℕ → List ℕ → List ℕ
 endWords flag area = pick (eqb flag 1) (crcWords area) []
 
+-- a line with that payload
+unfoldable pub framed : System → Bool → Bool → ℕ → Settings → List ℕ → List ℕ
+framed s f v number settings payload =
+    timingWords f v true ++ (headerWords number settings ++ (gapWords gapAt (savAt s - gapAt) ++ (timingWords f v false ++ payload)))
+
 -- the whole line
 unfoldable pub lineWords : System → Bool → Bool → ℕ → Settings → List ℕ → List ℕ
-lineWords s f v number settings area =
-    timingWords f v true
-    ++ (headerWords number settings
-    ++ (gapWords gapAt (savAt s - gapAt)
-    ++ (timingWords f v false ++ (area ++ endWords (settings .flag) area))))
+unfolding framed
+lineWords s f v number settings area = framed s f v number settings (area ++ endWords (settings .flag) area)
 
 -- the area of a line, and what stands behind it
 unfoldable pub areaOf : System → ℕ → List ℕ → List ℕ

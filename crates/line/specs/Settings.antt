@@ -1,13 +1,13 @@
 -- The settings, kept as byte values, and their faults 10 to 14.
 -- Assumes nothing.
 use Prim.Native.Nat.{ℕ, _<_}
-use mathlib.Core.Bool.{Bool, true, not}
+use mathlib.Core.Bool.{Bool, true, _&&_, not}
 use mathlib.Core.List.{List, [], _∷_}
 use mathlib.Core.Path.{_≡_}
 use lib.Dec.{eqb, ltb}
 use lib.ListN.{length, replicate}
 use Rattle.lists.specs.Tests.{lowest}
-use Rattle.lists.specs.Lists.{each}
+use Rattle.lists.specs.Lists.{same, each}
 use Rattle.line.specs.declared.settings.Settings.{Settings}
 use Rattle.line.specs.declared.systems.System.{System}
 use Rattle.line.specs.Systems.{systemOf}
@@ -44,3 +44,11 @@ settingsFaults row s =
 -- the lowest of 10 to 14 that holds, or 0
 unfoldable pub settingsFault : ℕ → Settings → ℕ
 settingsFault system s = lowest 10 (settingsFaults (systemOf system) s)
+
+-- the settings are equal, the five reserved bytes too
+unfoldable pub sameSettings : Settings → Settings → Bool
+sameSettings a b =
+    eqb (a .code) (b .code)
+    && (eqb (a .aai) (b .aai)
+    && (same (a .destination) (b .destination)
+    && (same (a .source) (b .source) && (eqb (a .block) (b .block) && (eqb (a .flag) (b .flag) && same (a .reserved) (b .reserved))))))

@@ -4,7 +4,7 @@ use crate::systems;
 ghost use mathlib.Core.Path.{_≡_};
 ghost use lib.Dec.{eqb};
 ghost use Rattle.lists.specs.Lists.{each};
-ghost use Rattle.line.specs.Settings.{noSettings, Held, settingsFault};
+ghost use Rattle.line.specs.Settings.{noSettings, Held, settingsFault, sameSettings};
 
 pub struct Settings {
     pub code: u8,
@@ -36,6 +36,23 @@ pub fn held(settings: Settings) -> Settings
     ensures { λ r. ⌜ (r ≡ settings) × Held r ⌝ }
 {
     settings
+}
+
+// The two settings are equal.
+pub fn same_settings(a: Settings, b: Settings) -> bool
+    ensures { λ r. ⌜ r ≡ sameSettings a b ⌝ }
+{
+    let a_to = a.destination;
+    let b_to = b.destination;
+    let a_from = a.source;
+    let b_from = b.source;
+    let a_five = a.reserved;
+    let b_five = b.reserved;
+    let to = lists::same_bytes(&a_to, &b_to);
+    let from = lists::same_bytes(&a_from, &b_from);
+    let five = lists::same_bytes(&a_five, &b_five);
+    (a.code == b.code)
+        & ((a.aai == b.aai) & (to & (from & ((a.block == b.block) & ((a.flag == b.flag) & five)))))
 }
 
 // Each byte is 0.

@@ -19,3 +19,16 @@ lowest n (false ∷ cs) = lowest (suc n) cs
 abbrev pub orNext : ℕ → ℕ → ℕ
 orNext zero next = next
 orNext (suc n) next = suc n
+
+-- a refusal: its number, and whether its condition holds
+pub record Refusal : Type 0 where
+  pub number : ℕ
+  pub holds : Bool
+
+abbrev pub when : ℕ → Bool → Refusal
+when n b = record { number = n; holds = b }
+
+-- the lowest number whose condition holds, of refusals in the order of their numbers; 0 where none holds
+abbrev pub lowestOf : List Refusal → ℕ
+lowestOf [] = 0
+lowestOf (r ∷ rs) = pick (r .holds) (r .number) (lowestOf rs)

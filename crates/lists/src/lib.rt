@@ -19,6 +19,22 @@ pub fn same_words(s: &[u16], t: &[u16]) -> bool
     ok
 }
 
+// The same of bytes.
+pub fn same_bytes(s: &[u8], t: &[u8]) -> bool
+    ensures { λ r. ⌜ r ≡ same (now (s .entry)) (now (t .entry)) ⌝ }
+{
+    if s.len() != t.len() {
+        return false;
+    }
+    let mut ok = true;
+    let mut i = 0;
+    while i < s.len() {
+        ok = ok & (s[i] == t[i]);
+        i += 1;
+    }
+    ok
+}
+
 // The number n where its condition holds, else the number that the later conditions gave.
 pub fn or_else(bad: bool, n: u8, later: u8) -> u8
     ensures { λ r. ⌜ r ≡ pick bad n later ⌝ }

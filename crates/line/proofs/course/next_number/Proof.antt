@@ -1,0 +1,23 @@
+-- `line::course::next_number` meets its contract. Assumes nothing.
+use mathlib.Core.Path.{_≡_, sym, ap, ap₂, _∙_}
+use borrow.Author.Tests.{eq-eqb, ne-eqb, lt-ltb, le-ltb}
+use Rattle.lists.proofs.Tests.{pick-true, pick-false}
+use native.Mathlib.Numerals.{add-one}
+use Rattle.line.specs.Course.{nextNumber}
+use borrow.Author.Needs.{needs}
+use Rattle.line.proofs.course.next_number.Statement.{statement}
+use Rattle.line.proofs.course.next_number.Tie as tie
+
+add-result : tie.Need-add-result
+add-result c = search needs
+
+returns : tie.Need-returns
+unfolding nextNumber
+returns c = add-one (c .before .args .x) ∙ sym (pick-true _ _ (lt-ltb (c .before .args .x) (c .before .args .lines) (c .if1 .taken)))
+
+returns-2 : tie.Need-returns-2
+unfolding nextNumber
+returns-2 c = sym (pick-false _ _ (le-ltb (c .before .args .x) (c .before .args .lines) (c .if1 .left)))
+
+pub next-number-spec : {M : Type 1} → statement M
+next-number-spec = tie.close (tie.spec add-result returns returns-2)
