@@ -19,7 +19,7 @@ use Rattle.line.specs.Fixed.{table, fixedOf, placesOf, sizeOf, fillsAll,
 use Rattle.line.specs.Settings.{settingsFaults}
 use Rattle.line.specs.Header.{numberWords, settingsBytes, settingsWords, summedWords, headerWords}
 use Rattle.line.specs.Layout.{areaLength, endWords, lineWords, areaOf, endOf}
-use Rattle.line.specs.Check.{legal, numberOf, settingsOf, timed, formed, crcStands, numbered, headFaults, areaFaults, payloadFaults, faults, fits, lineFault}
+use Rattle.line.specs.Check.{legal, numberOf, settingsOf, timed, formed, crcStands, numbered, headFaults, areaFaults, payloadFaults, faults, fitsLength, fits, lineFault}
 
 -- a system with a short line: L 75, P 10, N 525, code 1
 short : System
@@ -113,5 +113,5 @@ slips =
     ∷ case (found 9 (put 65 0x100 (line 1 plain))) 0 ∷ case (found 8 (put 65 0x100 (line 1 plain))) 15 ∷ []
 
 pub they-hold : T (hold (answers ++ slips))
-unfolding hold answers slips short set plain fixed guarded line put resum renumber found pick isMode isSystem isByte isData byteWord dataWord checksum crcOf crcWords timingWord timingWords mathlib.Core.Bool.xor table fixedOf placesOf sizeOf fillsAll blockRefused settingsFaults numberWords settingsBytes settingsWords summedWords headerWords areaLength endWords lineWords areaOf endOf legal numberOf settingsOf timed formed crcStands numbered headFaults areaFaults payloadFaults faults fits lineFault
+unfolding hold answers slips short set plain fixed guarded line put resum renumber found pick isMode isSystem isByte isData byteWord dataWord checksum crcOf crcWords timingWord timingWords mathlib.Core.Bool.xor table fixedOf placesOf sizeOf fillsAll blockRefused settingsFaults numberWords settingsBytes settingsWords summedWords headerWords areaLength endWords lineWords areaOf endOf legal numberOf settingsOf timed formed crcStands numbered headFaults areaFaults payloadFaults faults fitsLength lineFault
 they-hold = tt

@@ -27,7 +27,7 @@ use Rattle.line.specs.Fixed.{isVariable}
 use Rattle.line.specs.Settings.{Held, settingsFaults, settingsFault}
 use Rattle.line.specs.Header.{headerWords}
 use Rattle.line.specs.Layout.{gapAt, savAt, payloadAt, gapWords, areaLength, endWords, lineWords, areaOf, endOf}
-use Rattle.line.specs.Check.{legal, numberOf, settingsOf, headFaults, areaFaults, payloadFaults, faults, fits, lineFault, checkedFrom, checkedOf}
+use Rattle.line.specs.Check.{legal, numberOf, settingsOf, headFaults, areaFaults, payloadFaults, faults, fitsLength, fits, lineFault, checkedFrom, checkedOf}
 use Rattle.line.proofs.SystemLaws.{Sound, sound, fitting}
 use Rattle.line.proofs.Headers.{head-again, header-length, crc-formed, ReadBack, head-back}
 
@@ -220,7 +220,7 @@ module _ (system mode : ℕ) (f v : Bool) (n : ℕ) (s : Settings) (area : List 
       (clear-append (settingsFaults (systemOf system) s) (payloadFaults (systemOf system) mode (s .block) (s .flag) built) clear-settings clear-area))
 
   fits-built : fits system mode built ≡ true
-  unfolding fits
+  unfolding fitsLength
   fits-built = ap₂ _&&_ (b .known) (ap₂ _&&_ (b .moded) (eq-eqb (length built) (systemOf system .length) long-built))
 
   -- it has no fault, and reads back its number, settings and area

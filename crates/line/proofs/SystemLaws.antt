@@ -12,7 +12,7 @@ use Rattle.lists.proofs.Tests.{both-true}
 use Rattle.words.specs.Modes.{isMode}
 use Rattle.line.specs.declared.systems.System.{System}
 use Rattle.line.specs.Systems.{systemOf, isSystem}
-use Rattle.line.specs.Check.{fits}
+use Rattle.line.specs.Check.{fitsLength, fits}
 
 pub no-system : (system : ℕ) → (system ≡ 0 → ⊥) → (system ≡ 1 → ⊥) → (system ≡ 2 → ⊥) → (system ≡ 3 → ⊥) → systemOf system ≡ systemOf 4
 no-system zero a b c d = absurd (a refl)
@@ -43,7 +43,7 @@ pub record Fit (system mode : ℕ) (line : List ℕ) : Type 0 where
   pub long : systemOf system .length ≡ length line
 
 pub fitting : (system mode : ℕ) (line : List ℕ) → fits system mode line ≡ true → Fit system mode line
-unfolding fits
+unfolding fitsLength
 fitting system mode line e =
     let a = both-true (isSystem system) _ e in
     let b = both-true (isMode mode) _ (a .1) in

@@ -97,8 +97,11 @@ faults row mode line =
     headFaults row line ++ (settingsFaults row t ++ payloadFaults row mode (t .block) (t .flag) line)
 
 -- 1: unknown system or mode; line not L long
-unfoldable pub fits : ℕ → ℕ → List ℕ → Bool
-fits system mode line = isSystem system && (isMode mode && eqb (length line) (systemOf system .length))
+unfoldable pub fitsLength : ℕ → ℕ → ℕ → Bool
+fitsLength system mode n = isSystem system && (isMode mode && eqb n (systemOf system .length))
+
+abbrev pub fits : ℕ → ℕ → List ℕ → Bool
+fits system mode line = fitsLength system mode (length line)
 
 unfoldable pub lineFault : ℕ → ℕ → List ℕ → ℕ
 lineFault system mode line = pick (fits system mode line) (lowest 3 (faults (systemOf system) mode line)) 1

@@ -23,10 +23,14 @@ savAt s = s .length - s .payload - 4
 abbrev pub payloadAt : System → ℕ
 payloadAt s = s .length - s .payload
 
--- the writer fills the gap with 200h at even indices of the line and 040h at odd ones: n words from index i on
+-- the writer fills the gap with 200h at even indices of the line and 040h at odd ones
+unfoldable pub gapWord : ℕ → ℕ
+gapWord i = pick (eqb (i % 2) 0) 0x200 0x040
+
+-- n words from index i on
 abbrev pub gapWords : ℕ → ℕ → List ℕ
 gapWords i zero = []
-gapWords i (suc n) = pick (eqb (i % 2) 0) 0x200 0x040 ∷ gapWords (suc i) n
+gapWords i (suc n) = gapWord i ∷ gapWords (suc i) n
 
 -- Flag 00h: the area is all P words. Flag 01h: the area is the first P-2, and the last two are their CRC.
 unfoldable pub areaLength : ℕ → ℕ → ℕ

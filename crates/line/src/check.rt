@@ -9,7 +9,7 @@ ghost use mathlib.Core.Path.{_≡_};
 ghost use mathlib.Core.Bool.{true};
 ghost use Rattle.lists.specs.Tests.{lowest};
 ghost use Rattle.line.specs.Systems.{systemOf};
-ghost use Rattle.line.specs.Check.{settingsOf, faults, fits, faultyWith, checkedOf};
+ghost use Rattle.line.specs.Check.{settingsOf, faults, fitsLength, fits, faultyWith, checkedOf};
 
 // What the check answers: 01's number of the fault, or 0; and where it is 0, what was read.
 pub struct Checked {
@@ -19,11 +19,11 @@ pub struct Checked {
 }
 
 // A system and a mode that there are, and a line of the system's length.
-fn is_fit(system: u8, mode: u8, line: &[u16]) -> bool
-    ensures { λ r. ⌜ r ≡ fits system mode (now (line .entry)) ⌝ }
+pub fn is_fit(system: u8, mode: u8, length: usize) -> bool
+    ensures { λ r. ⌜ r ≡ fitsLength system mode length ⌝ }
 {
     let s = systems::system_of(system);
-    let long = line.len() == s.length;
+    let long = length == s.length;
     systems::is_system(system) & (words::forms::is_mode(mode) & long)
 }
 
@@ -55,7 +55,7 @@ fn faulty(fault: u8) -> Checked
 pub fn check(system: u8, mode: u8, line: &[u16]) -> Checked
     ensures { λ r. ⌜ r ≡ checkedOf system mode (now (line .entry)) ⌝ }
 {
-    if !is_fit(system, mode, line) {
+    if !is_fit(system, mode, line.len()) {
         return faulty(1);
     }
     let t = head::settings_of(line);

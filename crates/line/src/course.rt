@@ -5,7 +5,6 @@ use crate::layout;
 use crate::settings;
 use crate::settings::Settings;
 use crate::systems;
-
 ghost use mathlib.Core.Path.{_≡_};
 ghost use Rattle.line.specs.Course.{nextNumber, isAt, placeOf, blocksEnd, offGrid, misplaced, impossibleAfter};
 

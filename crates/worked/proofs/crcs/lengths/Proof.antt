@@ -1,8 +1,8 @@
--- `worked::lengths` is safe and ends. Assumes nothing.
+-- `worked::crcs::lengths` is safe and ends. Assumes nothing.
 use Prim.Native.Nat.{_≤_, _-_}
 use borrow.Author.Needs.{needs}
-use Rattle.worked.proofs.lengths.Statement.{statement}
-use Rattle.worked.proofs.lengths.Tie as tie
+use Rattle.worked.proofs.crcs.lengths.Statement.{statement}
+use Rattle.worked.proofs.crcs.lengths.Tie as tie
 
 abbrev Inv-loop : tie.InvT-loop
 Inv-loop kind n₀ n = n ≤ 61

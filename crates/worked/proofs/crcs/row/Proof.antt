@@ -1,18 +1,18 @@
--- `worked::row` is safe and ends. Assumes nothing.
+-- `worked::crcs::row` is safe and ends. Assumes nothing.
 use mathlib.Core.Path.{sym}
 use lib.Seq.{length-take-le}
 use borrow.Author.Needs.{needs}
-use Rattle.worked.proofs.row.Statement.{statement}
-use Rattle.worked.proofs.row.Tie as tie
+use Rattle.worked.proofs.crcs.row.Statement.{statement}
+use Rattle.worked.proofs.crcs.row.Tie as tie
 
 words-of-requires : tie.Need-words-of-requires
 words-of-requires c κs = search needs
 
-slice-aggregate-write-all : tie.Need-slice-aggregate-write-all
-slice-aggregate-write-all c = search needs
+slice-aggregate-begin : tie.Need-slice-aggregate-begin
+slice-aggregate-begin c = search needs
 
-write-all-requires : tie.Need-write-all-requires
-write-all-requires c κs = search needs
+begin-requires : tie.Need-begin-requires
+begin-requires c κs = search needs
 
 put-requires : tie.Need-put-requires
 put-requires c κs = search needs
@@ -32,11 +32,8 @@ slice-aggregate-put-list c = sym (length-take-le (c .before .before .before .bef
 put-list-requires : tie.Need-put-list-requires
 put-list-requires c κs = search needs
 
-slice-aggregate-write-all-2 : tie.Need-slice-aggregate-write-all-2
-slice-aggregate-write-all-2 c = search needs
-
-write-all-requires-2 : tie.Need-write-all-requires-2
-write-all-requires-2 c κs = search needs
+end-requires : tie.Need-end-requires
+end-requires c κs = search needs
 
 returns : tie.Need-returns
 returns c = search needs
@@ -46,14 +43,13 @@ row-spec =
     tie.close
     (tie.spec
     words-of-requires
-    slice-aggregate-write-all
-    write-all-requires
+    slice-aggregate-begin
+    begin-requires
     put-requires
     put-requires-2
     put-requires-3
     array-share-prefix-s
     slice-aggregate-put-list
     put-list-requires
-    slice-aggregate-write-all-2
-    write-all-requires-2
+    end-requires
     returns)

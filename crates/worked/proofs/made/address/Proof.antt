@@ -1,16 +1,16 @@
--- `worked::words_of` meets its contract. Assumes nothing.
+-- `worked::made::address` meets its contract. Assumes nothing.
+use borrow.Author.Needs.{needs}
 use Prim.Native.Nat.{_≤_, _<_, _-_}
 use lib.ListN.{length}
 use mathlib.Core.Path.{_≡_}
-use borrow.Author.Needs.{needs}
-use Rattle.worked.proofs.words_of.Statement.{statement}
-use Rattle.worked.proofs.words_of.Tie as tie
+use Rattle.worked.proofs.made.address.Statement.{statement}
+use Rattle.worked.proofs.made.address.Tie as tie
 
 abbrev Inv-loop : tie.InvT-loop
-Inv-loop kind seed s₀ x₀ i₀ s x i = (i ≤ 1918) × (x < 4294967296) × (length s ≡ 1918)
+Inv-loop seed s₀ x₀ i₀ s x i = (i ≤ 16) × (x < 4294967296) × (length s ≡ 16)
 
 abbrev μ-loop : tie.MeasureT-loop
-μ-loop kind seed s₀ x₀ i₀ s x i = 1918 - i
+μ-loop seed s₀ x₀ i₀ s x i = 16 - i
 
 loop-holds : tie.Need-loop-holds Inv-loop μ-loop
 loop-holds c = search needs
@@ -21,11 +21,8 @@ next-requires c κs = search needs
 upper-requires : tie.Need-upper-requires Inv-loop μ-loop
 upper-requires c κs = search needs
 
-word-requires : tie.Need-word-requires Inv-loop μ-loop
-word-requires c κs = search needs
-
-mul-s : tie.Need-mul-s Inv-loop μ-loop
-mul-s c = search needs
+cast-s : tie.Need-cast-s Inv-loop μ-loop
+cast-s c = search needs
 
 array-write-s : tie.Need-array-write-s Inv-loop μ-loop
 array-write-s c = search needs
@@ -42,8 +39,8 @@ loop-again c = search needs
 returns : tie.Need-returns Inv-loop μ-loop
 returns c = search needs
 
-pub words-of-spec : {M : Type 1} → statement M
-words-of-spec =
+pub address-spec : {M : Type 1} → statement M
+address-spec =
     tie.close
     (tie.spec
     Inv-loop
@@ -51,8 +48,7 @@ words-of-spec =
     loop-holds
     next-requires
     upper-requires
-    word-requires
-    mul-s
+    cast-s
     array-write-s
     add-i
     loop-less

@@ -1,8 +1,8 @@
--- `worked::seeds` is safe and ends. Assumes nothing.
+-- `worked::crcs::seeds` is safe and ends. Assumes nothing.
 use Prim.Native.Nat.{_≤_, _-_}
 use borrow.Author.Needs.{needs}
-use Rattle.worked.proofs.seeds.Statement.{statement}
-use Rattle.worked.proofs.seeds.Tie as tie
+use Rattle.worked.proofs.crcs.seeds.Statement.{statement}
+use Rattle.worked.proofs.crcs.seeds.Tie as tie
 
 abbrev Inv-loop : tie.InvT-loop
 Inv-loop kind n k₀ k = k ≤ 6
