@@ -91,11 +91,11 @@ module _ (x : Six) where
       let e = length-append (x .area) (x .end) in
       omega (arith, x .eav-long, x .header-long, x .sav-long)
 
-four : (f v h : Bool) → length (timingWords f v h) ≡ 4
+pub four : (f v h : Bool) → length (timingWords f v h) ≡ 4
 unfolding timingWords
 four f v h = refl
 
-gap-length : (i n : ℕ) → length (gapWords i n) ≡ n
+pub gap-length : (i n : ℕ) → length (gapWords i n) ≡ n
 gap-length i zero = refl
 gap-length i (suc n) = ap suc (gap-length (suc i) n)
 
