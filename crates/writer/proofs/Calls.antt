@@ -1,0 +1,158 @@
+-- What the calls leave is what the definitions say.
+-- Assumes nothing.
+use mathlib.Core.Path.{_≡_, sym, ap, ap₂, _∙_}
+use mathlib.Core.List.{List, [], _∷_, _++_, append-nil}
+use Prim.Native.Nat.{ℕ, _+_, _-_, _≤_, _<_, min}
+use native.Mathlib.Numerals.{add-one}
+use native.Mathlib.Omega.{arith}
+use lib.Dec.{eqb}
+use lib.ListN.{length, set, take, drop, length-drop, drop-of-length-le}
+use lib.Seq.{take-all, paste, sets-eq}
+use borrow.Author.Tests.{eq-eqb, ne-eqb}
+use borrow.Rule.Slice.PartMut.{putMid}
+use Rattle.lists.specs.Tests.{pick}
+use Rattle.lists.proofs.Tests.{pick-true, pick-false}
+use Rattle.words.specs.Crc.{crcOf, crcLow, crcHigh, crcWords}
+use Rattle.line.specs.declared.systems.System.{System}
+use Rattle.line.specs.declared.course.Place.the-variants.{Shut, At}
+use Rattle.line.specs.Systems.{systemOf}
+use Rattle.line.specs.Layout.{payloadAt, areaLength, areaOf, endWords}
+use Rattle.line.specs.Course.{placeOf}
+use Rattle.writer.specs.declared.state.Rest.{Rest}
+use Rattle.writer.specs.declared.state.Rest.the-variants.{Whole, Part}
+use Rattle.writer.specs.declared.state.Writer.{Writer}
+use Rattle.writer.specs.declared.state.Laid.{Laid}
+use Rattle.writer.specs.declared.state.Laid.the-variants.{Not, Finished, Unfinished}
+use Rattle.writer.specs.declared.state.Answer.the-variants.{Refused, Done}
+use Rattle.writer.specs.Answers.{left, Added, added}
+use Rattle.writer.specs.State.{laidOf, endIn, moved}
+use Rattle.writer.specs.Block.{wordsIn}
+use Rattle.writer.specs.Adding.{addFault, todo, room, adding}
+use Rattle.writer.specs.Closing.{closeFault, sealed, closing}
+use Rattle.writer.proofs.FillLaws.{mid-paste}
+use Rattle.writer.proofs.BlockLaws.{words-long}
+use Rattle.writer.proofs.Refusals.{count, count-between, payload-most, length-most, CanAdd, can-add}
+
+-- ---- closing
+-- the last two words stored
+pub last-two : (d : List ℕ) (e x y : ℕ) → length d ≡ e + 2 → set (set d e x) (e + 1) y ≡ take e d ++ (x ∷ y ∷ [])
+last-two d e x y h =
+    ap (λ (k : ℕ). set (set d e x) k y) (add-one e)
+    ∙ sets-eq (x ∷ y ∷ []) d e (omega arith)
+    ∙ ap (λ (r : List ℕ). (take e d ++ (x ∷ y ∷ [])) ++ r) (drop-of-length-le d {i = e + 2} (omega arith))
+    ∙ append-nil (take e d ++ (x ∷ y ∷ []))
+
+-- what the CRC of the area is, and where it stands
+pub seal-is : (s : System) (flag : ℕ) (d : List ℕ) (crc lo hi : ℕ) → flag ≡ 1 → s .payload + 61 ≤ s .length → 2 ≤ s .payload → s .length ≡ length d
+    → crc ≡ crcOf 262143 (take (s .length - 2 - (s .length - s .payload)) (drop (s .length - s .payload) d)) → lo ≡ crcLow crc → hi ≡ crcHigh crc
+    → set (set d (s .length - 2) lo) (s .length - 2 + 1) hi ≡ sealed s flag d
+unfolding sealed areaLength endWords areaOf crcWords
+seal-is s flag d crc lo hi one room area long hc hlo hhi =
+    let p = s .payload in
+    let a = s .length - p in
+    let m : s .length - 2 - a ≡ p - 2 = omega arith in
+    let e : s .length - 2 ≡ a + (p - 2) = omega arith in
+    let n : length d ≡ s .length - 2 + 2 = omega arith in
+    let short = pick-true (p - 2) p (eq-eqb flag 1 one) in
+    let c : crc ≡ crcOf 262143 (take (pick (eqb flag 1) (p - 2) p) (drop a d)) = hc ∙ ap (λ (x : ℕ). crcOf 262143 (take x (drop a d))) (m ∙ sym short) in
+    last-two d (s .length - 2) lo hi n
+    ∙ ap₂ (λ (x : ℕ) (r : List ℕ). take x d ++ r) (e ∙ ap (λ (x : ℕ). a + x) (sym short))
+    (ap₂ (λ (x y : ℕ). x ∷ y ∷ []) (hlo ∙ ap crcLow c) (hhi ∙ ap crcHigh c) ∙ sym (pick-true _ [] (eq-eqb flag 1 one)))
+
+-- with another flag nothing is written
+pub seal-none : (s : System) (flag : ℕ) (d : List ℕ) → (flag ≡ 1 → ⊥) → s .payload + 61 ≤ s .length → s .length ≡ length d → d ≡ sealed s flag d
+unfolding sealed areaLength endWords
+seal-none s flag d other room long =
+    let all = pick-false (s .payload - 2) (s .payload) (ne-eqb flag 1 other) in
+    let whole : length d ≤ payloadAt s + s .payload = omega arith in
+    sym
+    (ap₂ (λ (x : ℕ) (r : List ℕ). take (payloadAt s + x) d ++ r) all (pick-false _ [] (ne-eqb flag 1 other))
+    ∙ append-nil _
+    ∙ take-all (payloadAt s + s .payload) d whole)
+
+module _ (w : Writer) (line : List ℕ) (fault : ℕ) (is : fault ≡ closeFault w (length line)) where
+  pub close-refused : (fault ≡ 0 → ⊥) → left (Refused fault) w line ≡ closing w line
+  unfolding closing
+  close-refused h = ap (λ (n : ℕ). left (Refused n) w line) is ∙ sym (pick-false _ _ (ne-eqb _ _ (λ e. h (is ∙ e))))
+
+  pub close-done : fault ≡ 0 → (l : List ℕ) → l ≡ sealed (systemOf (w .system)) (w .settings .flag) line → left Done (moved w Shut (w .rest)) l ≡ closing w line
+  unfolding closing
+  close-done h l e = ap (left Done (moved w Shut (w .rest))) e ∙ sym (pick-true _ _ (eq-eqb _ _ (sym is ∙ h)))
+
+-- ---- adding
+pub add-refused : (w : Writer) (line : List ℕ) (kind : ℕ) (vs : List ℕ) (fault : ℕ) → fault ≡ addFault w (length line) kind vs → (fault ≡ 0 → ⊥)
+    → added (Not fault) w line ≡ adding w line kind vs
+unfolding adding
+add-refused w line kind vs fault is h = ap (λ (n : ℕ). added (Not n) w line) is ∙ sym (pick-false _ _ (ne-eqb _ _ (λ e. h (is ∙ e))))
+
+-- the sizes that the code works with: place, words laid, words left, words to lay now, index in the line
+pub record Found (w : Writer) (line : List ℕ) (kind : ℕ) (vs : List ℕ) (p j rest k a : ℕ) : Type 0 where
+  pub clear : addFault w (length line) kind vs ≡ 0
+  pub place : p ≡ placeOf (w .place)
+  pub laid : j ≡ laidOf (w .rest)
+  pub left : rest ≡ count (w .settings .block) (length vs) - j
+  pub now : k ≡ min (endIn w - p) rest
+  pub index : a ≡ payloadAt (systemOf (w .system)) + p
+
+-- their bounds
+pub record Sizes (p j k a kind n long total : ℕ) : Type 0 where
+  pub within : a + k ≤ long
+  pub short : long ≤ 2304
+  pub ends : p + k ≤ 1920
+  pub laid : j + k ≤ total
+  pub few : total ≤ 16391
+  pub byte : kind < 256
+  pub number : n ≤ 16384
+
+-- what is left, by the code's sizes
+abbrev leaves : Writer → List ℕ → ℕ → List ℕ → ℕ → ℕ → ℕ → ℕ → ℕ → Added
+leaves w line kind vs p j rest k a =
+    added (pick (eqb k rest) Finished Unfinished)
+    (moved w (At (p + k)) (pick (eqb k rest) Whole (Part kind (length vs) (j + k))))
+    (paste line a (drop j (wordsIn (w .settings .block) (w .mode) kind vs)) k)
+
+module _ {w : Writer} {line : List ℕ} {kind : ℕ} {vs : List ℕ} {p j rest k a : ℕ} (f : Found w line kind vs p j rest k a) where
+  can : CanAdd w line kind vs
+  can = can-add w line kind vs (f .clear)
+
+  rest-is : rest ≡ length (todo w kind vs)
+  rest-is =
+      f .left
+      ∙ ap₂ _-_ (sym (words-long (w .settings .block) (w .mode) kind vs)) (f .laid)
+      ∙ sym (length-drop (laidOf (w .rest)) (wordsIn (w .settings .block) (w .mode) kind vs))
+
+  within : a + k ≤ length line
+  within = omega (arith, f .place, f .now, f .index, can .fit .long, can .fit .row .room, can .room, can .end)
+
+  pub sizes : Sizes p j k a kind (length vs) (length line) (count (w .settings .block) (length vs))
+  sizes =
+      record {
+        within = within;
+        short = omega (arith, can .fit .long, length-most (w .system));
+        ends = omega (arith, f .place, f .now, can .room, can .end, payload-most (w .system));
+        laid = omega (arith, f .laid, f .left, f .now, can .left);
+        few = omega (arith, can .number, count-between (w .settings .block) (length vs) .1);
+        byte = can .byte;
+        number = can .number;
+      }
+
+  pub add-done : (ys : List ℕ) (after : Rest) (answer : Laid)
+      → ys ≡ take (length (take (a + k - a) (drop a line))) (drop j (wordsIn (w .settings .block) (w .mode) kind vs))
+      → after ≡ pick (eqb k rest) Whole (Part kind (length vs) (j + k)) → answer ≡ pick (eqb k rest) Finished Unfinished
+      → added answer (moved w (At (p + k)) after) (putMid a (a + k - a) line ys) ≡ adding w line kind vs
+  unfolding adding
+  add-done ys after answer hy hr ht =
+      let ws = todo w kind vs in
+      let q = placeOf (w .place) in
+      let i = laidOf (w .rest) in
+      let g = leaves w line kind vs in
+      let some : k ≡ room w ws = f .now ∙ ap₂ (λ (x y : ℕ). min (endIn w - x) y) (f .place) rest-is in
+      let pasted = mid-paste line (drop j (wordsIn (w .settings .block) (w .mode) kind vs)) ys a k within hy in
+      let first : added answer (moved w (At (p + k)) after) (putMid a (a + k - a) line ys) ≡ g p j rest k a = rw (ht, hr, pasted) in
+      first
+      ∙ ap (λ (x : ℕ). g x j rest k a) (f .place)
+      ∙ ap (λ (x : ℕ). g q x rest k a) (f .laid)
+      ∙ ap (λ (x : ℕ). g q i x k a) rest-is
+      ∙ ap (λ (x : ℕ). g q i (length ws) x a) some
+      ∙ ap (λ (x : ℕ). g q i (length ws) (room w ws) x) (f .index ∙ ap (λ (x : ℕ). payloadAt (systemOf (w .system)) + x) (f .place))
+      ∙ sym (pick-true _ _ (eq-eqb _ _ (f .clear)))

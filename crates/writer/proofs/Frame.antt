@@ -1,0 +1,69 @@
+-- A line laid by parts that are lent one after the other, [..a] and then [a..]; and the parts of an opened line.
+-- Assumes nothing.
+use mathlib.Core.Path.{_≡_, refl, ap, ap₂, _∙_}
+use mathlib.Core.Bool.{Bool, true, false}
+use mathlib.Core.List.{List, _++_, append-nil}
+use Prim.Native.Nat.{ℕ, zero, suc, _+_, _-_, _≤_}
+use native.Mathlib.Nat.{le-refl}
+use native.Mathlib.Omega.{arith}
+use lib.ListN.{length, take, drop, replicate, length-append, length-drop, drop-of-length-le}
+use lib.Seq.{length-take-le, take-at}
+use borrow.Rule.Slice.PartMut.{putMid}
+use Rattle.line.specs.declared.systems.System.{System}
+use Rattle.line.specs.declared.settings.Settings.{Settings}
+use Rattle.line.specs.Systems.{systemOf}
+use Rattle.line.specs.Timing.{timingWords}
+use Rattle.line.specs.Header.{headerWords}
+use Rattle.line.specs.Layout.{gapWords, framed}
+use Rattle.writer.specs.Opening.{openWords}
+
+-- ---- two parts of d: xs comes back for [..a]
+module _ (d xs : List ℕ) (a : ℕ) (inside : a ≤ length d) (front : length xs ≡ a) where
+  first-back : length (xs ++ drop a d) ≡ length d
+  first-back = length-append xs (drop a d) ∙ ap₂ _+_ front (length-drop a d) ∙ omega arith
+
+  -- the second part, as it is lent
+  pub second-long : length (take (length (xs ++ drop a d) - a) (drop a (xs ++ drop a d))) ≡ length d - a
+  second-long =
+      length-take-le (length (xs ++ drop a d) - a) (drop a (xs ++ drop a d)) (rw (length-drop a (xs ++ drop a d)) (le-refl _))
+      ∙ ap (λ (i : ℕ). i - a) first-back
+
+  -- and ys for [a..]
+  pub both-back : (ys : List ℕ) → putMid a (length (xs ++ drop a d) - a) (xs ++ drop a d) ys ≡ xs ++ ys
+  both-back ys =
+      ap₂ (λ (l r : List ℕ). l ++ (ys ++ r)) (take-at xs (drop a d) a front)
+      (drop-of-length-le (drop a (xs ++ drop a d)) {i = length (xs ++ drop a d) - a} (rw (length-drop a (xs ++ drop a d)) (le-refl _)))
+      ∙ ap (λ (l : List ℕ). xs ++ l) (append-nil ys)
+
+-- the first part is filled with ws, the second with what f gives for its length
+pub by-two : (d xs ys ws : List ℕ) (f : ℕ → List ℕ) (a : ℕ) → a ≤ length d → length ws ≡ a → xs ≡ ws
+    → ys ≡ f (length (take (length (xs ++ drop a d) - a) (drop a (xs ++ drop a d))))
+    → putMid a (length (xs ++ drop a d) - a) (xs ++ drop a d) ys ≡ ws ++ f (length d - a)
+by-two d xs ys ws f a inside long is e =
+    let front = ap length is ∙ long in
+    both-back d xs a inside front ys ∙ ap₂ _++_ is (e ∙ ap f (second-long d xs a inside front))
+
+-- ---- an opened line
+-- the header, the gap and SAV have room behind EAV
+pub header-room : (system : ℕ) (r : System) (d xs : List ℕ) → r ≡ systemOf system → systemOf system .payload + 61 ≤ systemOf system .length
+    → length d ≡ systemOf system .length → length xs ≡ 4
+    → 53 + (r .length - r .payload - 61) + 4 ≤ length (take (length (xs ++ drop 4 d) - 4) (drop 4 (xs ++ drop 4 d)))
+header-room system r d xs e h k l = rw (second-long d xs 4 (omega arith) l) (rw e (omega arith))
+
+gap-is : (l p : ℕ) → l - p - 61 ≡ l - p - 4 - 57
+gap-is l p = omega arith
+
+payload-is : (l p k : ℕ) → p + 61 ≤ l → k ≡ l → k - 4 - 53 - (l - p - 61) - 4 ≡ p
+payload-is l p k h e = omega arith
+
+pub whole-line : (system : ℕ) (f v : Bool) (n : ℕ) (t : Settings) (r : System) (d : List ℕ) → r ≡ systemOf system
+    → systemOf system .payload + 61 ≤ systemOf system .length → length d ≡ systemOf system .length
+    → timingWords f v true ++ (headerWords n t ++ (gapWords 57 (r .length - r .payload - 61)
+    ++ (timingWords f v false ++ replicate (length d - 4 - 53 - (r .length - r .payload - 61) - 4) 0x200))) ≡ openWords system f v n t
+unfolding openWords framed
+whole-line system f v n t r d e h k =
+    let s = systemOf system in
+    ap (λ (x : System). timingWords f v true ++ (headerWords n t ++ (gapWords 57 (x .length - x .payload - 61)
+    ++ (timingWords f v false ++ replicate (length d - 4 - 53 - (x .length - x .payload - 61) - 4) 0x200)))) e
+    ∙ ap₂ (λ (g p : ℕ). timingWords f v true ++ (headerWords n t ++ (gapWords 57 g ++ (timingWords f v false ++ replicate p 0x200))))
+    (gap-is (s .length) (s .payload)) (payload-is (s .length) (s .payload) (length d) h k)

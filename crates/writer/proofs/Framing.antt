@@ -1,0 +1,92 @@
+-- A line in two parts, all before the payload and the payload: words pasted into the payload, and the line sealed.
+-- Assumes nothing.
+use mathlib.Core.Path.{_≡_, refl, sym, ap, ap₂, _∙_, subst}
+use mathlib.Core.Bool.{Bool, true, false}
+use mathlib.Core.List.{List, [], _∷_, _++_, append-assoc, append-nil}
+use Prim.Native.Nat.{ℕ, zero, suc, _+_, _-_, _≤_}
+use native.Mathlib.Nat.{sub-zero, zero-sub, suc-sub-suc}
+use native.Mathlib.Omega.{arith}
+use lib.ListN.{length, take, drop, replicate, length-append, length-replicate, take-append-drop}
+use lib.Seq.{paste, take-at, drop-at, take-append-add, length-take-le, take-all}
+use Rattle.lists.specs.Lists.{part}
+use Rattle.lists.proofs.Lists.{drop-behind}
+use Rattle.line.specs.declared.systems.System.{System}
+use Rattle.line.specs.declared.settings.Settings.{Settings}
+use Rattle.line.specs.Timing.{timingWords}
+use Rattle.line.specs.Settings.{Held}
+use Rattle.line.specs.Header.{headerWords}
+use Rattle.line.specs.Layout.{gapAt, savAt, payloadAt, gapWords, areaLength, endWords, framed, lineWords, areaOf}
+use Rattle.line.proofs.Headers.{header-length}
+use Rattle.line.proofs.Lines.{four, gap-length}
+use Rattle.writer.specs.Closing.{sealed}
+
+-- ---- lists of filler
+pub take-filler : (k m x : ℕ) → k ≤ m → take k (replicate m x) ≡ replicate k x
+take-filler zero m x h = refl
+take-filler (suc k) zero x h = absurd (omega arith)
+take-filler (suc k) (suc m) x h = ap (λ (l : List ℕ). x ∷ l) (take-filler k m x (omega arith))
+
+pub drop-filler : (k m x : ℕ) → drop k (replicate m x) ≡ replicate (m - k) x
+drop-filler zero m x = ap (λ (n : ℕ). replicate n x) (sym (sub-zero m))
+drop-filler (suc k) zero x = ap (λ (n : ℕ). replicate n x) (sym (zero-sub (suc k)))
+drop-filler (suc k) (suc m) x = drop-filler k m x ∙ ap (λ (n : ℕ). replicate n x) (sym (suc-sub-suc m k))
+
+-- a part of the filler behind a list
+pub take-behind : (a : List ℕ) (n m x : ℕ) → length a ≤ n → n ≤ length a + m → take n (a ++ replicate m x) ≡ a ++ replicate (n - length a) x
+take-behind a n m x h k =
+    let e : n ≡ length a + (n - length a) = omega arith in
+    ap (λ (i : ℕ). take i (a ++ replicate m x)) e ∙ take-append-add a (replicate m x) (n - length a) ∙ ap (λ (l : List ℕ). a ++ l) (take-filler (n - length a) m x (omega arith))
+
+-- ---- what stands before the payload
+pub front : System → Bool → Bool → ℕ → Settings → List ℕ
+front s f v n t = timingWords f v true ++ (headerWords n t ++ (gapWords gapAt (savAt s - gapAt) ++ timingWords f v false))
+
+module _ (s : System) (f v : Bool) (n : ℕ) (t : Settings) (held : Held t) (room : s .payload + 61 ≤ s .length) where
+  pub front-length : length (front s f v n t) ≡ payloadAt s
+  unfolding front
+  front-length =
+      let gap = gapWords gapAt (savAt s - gapAt) in
+      let a = length-append (timingWords f v true) (headerWords n t ++ (gap ++ timingWords f v false)) in
+      let b = length-append (headerWords n t) (gap ++ timingWords f v false) in
+      let c = length-append gap (timingWords f v false) in
+      let d = header-length t held n in
+      let e = gap-length gapAt (savAt s - gapAt) in
+      let g = four f v true in
+      let h = four f v false in
+      omega arith
+
+pub framed-front : (s : System) (f v : Bool) (n : ℕ) (t : Settings) (payload : List ℕ) → framed s f v n t payload ≡ front s f v n t ++ payload
+unfolding framed front
+framed-front s f v n t payload = sym (simp append-assoc)
+
+-- ---- words pasted behind a, over the filler
+pub pasted : (h a ws : List ℕ) (m x k : ℕ) → k ≤ length ws
+    → paste (h ++ (a ++ replicate m x)) (length h + length a) ws k ≡ h ++ ((a ++ take k ws) ++ replicate (m - k) x)
+pasted h a ws m x k le =
+    let l = h ++ (a ++ replicate m x) in
+    let both : l ≡ (h ++ a) ++ replicate m x = sym (append-assoc h a (replicate m x)) in
+    let long : length (h ++ a) ≡ length h + length a = length-append h a in
+    let before : take (length h + length a) l ≡ h ++ a = ap (take (length h + length a)) both ∙ take-at (h ++ a) (replicate m x) (length h + length a) long in
+    let behind : drop (length h + length a + k) l ≡ replicate (m - k) x =
+    ap (drop (length h + length a + k)) both ∙ drop-behind (h ++ a) (replicate m x) (length h + length a) k long ∙ drop-filler k m x in
+    ap₂ (λ (p q : List ℕ). (p ++ take k ws) ++ q) before behind ∙ simp append-assoc
+
+-- ---- closing: the area as the line has it, and its CRC behind it
+pub seals : (s : System) (f v : Bool) (n : ℕ) (t : Settings) (held : Held t) (room : s .payload + 61 ≤ s .length) (a : List ℕ)
+    → length a ≤ areaLength (s .payload) (t .flag) → areaLength (s .payload) (t .flag) ≤ s .payload
+    → sealed s (t .flag) (framed s f v n t (a ++ replicate (s .payload - length a) 0x200))
+    ≡ lineWords s f v n t (a ++ replicate (areaLength (s .payload) (t .flag) - length a) 0x200)
+unfolding sealed areaOf lineWords
+seals s f v n t held room a inside short =
+    let k = areaLength (s .payload) (t .flag) in
+    let h = front s f v n t in
+    let fill = a ++ replicate (s .payload - length a) 0x200 in
+    let area = a ++ replicate (k - length a) 0x200 in
+    let at : length h ≡ payloadAt s = front-length s f v n t held room in
+    let line : framed s f v n t fill ≡ h ++ fill = framed-front s f v n t fill in
+    let cut : take k fill ≡ area = take-behind a k (s .payload - length a) 0x200 inside (omega arith) in
+    let body : part (payloadAt s) k (framed s f v n t fill) ≡ area =
+    ap (λ (l : List ℕ). part (payloadAt s) k l) line ∙ ap (take k) (drop-at h fill (payloadAt s) at) ∙ cut in
+    let before : take (payloadAt s + k) (framed s f v n t fill) ≡ h ++ area =
+    ap₂ (λ (i : ℕ) (l : List ℕ). take (i + k) l) (sym at) line ∙ take-append-add h fill k ∙ ap (λ (l : List ℕ). h ++ l) cut in
+    ap₂ (λ (p q : List ℕ). p ++ endWords (t .flag) q) before body ∙ append-assoc h area (endWords (t .flag) area) ∙ sym (framed-front s f v n t (area ++ endWords (t .flag) area))

@@ -1,0 +1,10 @@
+pub mod StateLaws
+pub mod FillLaws
+pub mod BlockLaws
+pub mod Frame
+pub mod Refusals
+pub mod Calls
+pub mod Keeps
+pub mod Framing
+pub mod Legal
+pub mod Writing

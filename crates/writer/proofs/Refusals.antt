@@ -1,0 +1,257 @@
+-- What a fault number 0 says, and what a possible state has.
+-- Assumes nothing.
+use mathlib.Core.Path.{_≡_, refl, sym, ap, _∙_, subst}
+use mathlib.Core.Bool.{Bool, true, false, _&&_, _||_, not}
+use mathlib.Core.List.{List}
+use Prim.Native.Nat.{ℕ, zero, suc, _+_, _-_, _*_, _≤_, _<_}
+use native.Mathlib.Omega.{arith}
+use lib.Dec.{T, ltb, leb, eqb, lit≤}
+use lib.ListN.{length}
+use borrow.Author.Tests.{ltb-false, leb-true, leb-false, eqb-true, eqb-false, not-false}
+use Rattle.lists.specs.Tests.{pick}
+use Rattle.lists.proofs.Tests.{both-true, lowest-clear}
+use Rattle.words.specs.Modes.{isMode}
+use Rattle.line.specs.declared.settings.Settings.{Settings}
+use Rattle.line.specs.declared.course.Last.{Last}
+use Rattle.line.specs.declared.course.Last.the-variants.{Unknown, Number}
+use Rattle.line.specs.declared.course.Place.{Place}
+use Rattle.line.specs.declared.course.Place.the-variants.{Shut, At}
+use Rattle.line.specs.Systems.{systemOf, isSystem}
+use Rattle.line.specs.Fixed.{isVariable, sizeOf, placesOf, blockRefused}
+use Rattle.line.specs.Settings.{settingsFaults, settingsFault}
+use Rattle.line.specs.Layout.{areaLength}
+use Rattle.line.specs.Check.{fitsLength}
+use Rattle.line.specs.Course.{isAt, placeOf, blocksEnd, misplaced, impossibleAfter}
+use Rattle.line.proofs.SystemLaws.{Sound, sound, Fit, fitting}
+use Rattle.line.proofs.FixedLaws.{places-in-area}
+use Rattle.writer.specs.declared.state.Rest.{Rest}
+use Rattle.writer.specs.declared.state.Rest.the-variants.{Whole, Part}
+use Rattle.writer.specs.declared.state.Writer.{Writer}
+use Rattle.writer.specs.State.{most, isPart, laidOf, misshapen, impossible, endIn}
+use Rattle.writer.specs.Block.{headIn, tailIn}
+use Rattle.writer.specs.Adding.{valued, illShaped, isFull, isOther, addFault}
+use Rattle.writer.specs.Opening.{openBlocked, openFault}
+use Rattle.writer.specs.Closing.{closeFault}
+use Rattle.writer.proofs.BlockLaws.{head-six, head-one, tail-variable, tail-fixed}
+
+-- ---- refusals in the order of their numbers
+-- no number: the first condition doesn't hold, nor does a later one
+pub passed : (n : ℕ) (b : Bool) (r : ℕ) → pick b (suc n) r ≡ 0 → (b ≡ false) × (r ≡ 0)
+unfolding pick
+passed n true r e = absurd (omega arith)
+passed n false r e = (refl, e)
+
+-- a fault that gives its own number
+own-by : (m r : ℕ) (b : Bool) → eqb m 0 ≡ b → pick (not b) m r ≡ 0 → (m ≡ 0) × (r ≡ 0)
+unfolding pick
+own-by m r true h e = (eqb-true m 0 h, e)
+own-by m r false h e = absurd (eqb-false m 0 h e)
+
+pub passed-own : (m r : ℕ) → pick (not (eqb m 0)) m r ≡ 0 → (m ≡ 0) × (r ≡ 0)
+passed-own m r e = own-by m r (eqb m 0) refl e
+
+true-false : true ≡ false → ⊥
+true-false e = subst T e tt
+
+pub or-false : (a b : Bool) → (a || b) ≡ false → (a ≡ false) × (b ≡ false)
+or-false true b e = absurd (true-false e)
+or-false false b e = (refl, e)
+
+-- ---- 1, 18, 19
+fit-of : (w : Writer) (line : List ℕ) → not (fitsLength (w .system) (w .mode) (length line)) ≡ false → (isSystem (w .system) ≡ true) × Fit (w .system) (w .mode) line
+unfolding fitsLength
+fit-of w line e =
+    let f = not-false _ e in
+    (both-true (isSystem (w .system)) _ f .0, fitting (w .system) (w .mode) line f)
+
+shape-of : (place : Place) (block kind n : ℕ) → illShaped place block kind n ≡ false → (n ≤ most) × (kind < 256)
+unfolding illShaped
+shape-of place block kind n e =
+    let a = or-false (ltb most n) _ e in
+    let k = ltb-false 255 kind (or-false (ltb 255 kind) _ (a .1) .0) in
+    (ltb-false most n (a .0), omega arith)
+
+room-of-place : (end : ℕ) (place : Place) → isAt place ≡ true → isFull end place ≡ false → placeOf place < end
+room-of-place end Shut o e = absurd (true-false (sym o))
+room-of-place end (At p) o e = leb-false end p e
+
+-- ---- a possible state with an open line
+pub record Possible (w : Writer) : Type 0 where
+  pub settings : settingsFault (w .system) (w .settings) ≡ 0
+  pub placed : misplaced (systemOf (w .system) .payload) (w .settings .block) (w .settings .flag) (w .place) ≡ false
+  pub variable : (isPart (w .rest) && not (isVariable (w .settings .block))) ≡ false
+  pub shaped : misshapen (w .rest) ≡ false
+
+pub possible : (w : Writer) → impossible w ≡ false → isAt (w .place) ≡ true → Possible w
+unfolding impossible
+possible w e o =
+    let both = or-false (impossibleAfter (w .system) (w .last) (w .settings) (w .place) (isPart (w .rest))) (misshapen (w .rest)) e in
+    go (w .last) (both .0) (both .1)
+  where
+    go : (l : Last) → impossibleAfter (w .system) l (w .settings) (w .place) (isPart (w .rest)) ≡ false → misshapen (w .rest) ≡ false → Possible w
+    go Unknown h m = absurd (true-false (sym o ∙ or-false (isPart (w .rest)) (isAt (w .place)) h .1))
+    go (Number x) h m =
+        let a = or-false (not (leb 1 x && leb x (systemOf (w .system) .lines))) _ h in
+        let b = or-false (not (eqb (settingsFault (w .system) (w .settings)) 0)) _ (a .1) in
+        let d = or-false (misplaced (systemOf (w .system) .payload) (w .settings .block) (w .settings .flag) (w .place)) _ (b .1) in
+        record { settings = eqb-true _ 0 (not-false _ (b .0)); placed = d .0; variable = d .1; shaped = m }
+
+block-passes : (system : ℕ) (t : Settings) → settingsFault system t ≡ 0 → blockRefused (systemOf system .payload) (t .block) (t .flag) ≡ false
+unfolding settingsFault settingsFaults
+block-passes system t e = lowest-clear 9 (settingsFaults (systemOf system) t) e .1 .1 .0
+
+pub area-most : (p flag : ℕ) → areaLength p flag ≤ p
+unfolding areaLength pick
+area-most p flag = go (eqb flag 1)
+  where
+    go : (b : Bool) → pick b (p - 2) p ≤ p
+    go true = omega arith
+    go false = omega arith
+
+-- blocks end in the area
+pub end-in-area : (system : ℕ) (t : Settings) → isSystem system ≡ true → settingsFault system t ≡ 0
+    → blocksEnd (systemOf system .payload) (t .block) (t .flag) ≤ areaLength (systemOf system .payload) (t .flag)
+unfolding blocksEnd pick
+end-in-area system t known e = go (isVariable (t .block)) refl
+  where
+    go : (b : Bool) → isVariable (t .block) ≡ b
+        → pick b (areaLength (systemOf system .payload) (t .flag)) (placesOf (systemOf system .payload) (t .block) * sizeOf (t .block))
+        ≤ areaLength (systemOf system .payload) (t .flag)
+    go true v = omega arith
+    go false v = places-in-area system known (t .block) (t .flag) v (block-passes system t e)
+
+-- ---- how many words a block has
+abbrev pub count : ℕ → ℕ → ℕ
+count block n = length (headIn block 0 0) + (n + length (tailIn block))
+
+pub count-variable : (block n : ℕ) → isVariable block ≡ true → count block n ≡ n + 7
+count-variable block n e = let tail : length (tailIn block) ≡ 1 = ap length (tail-variable block e) in omega (arith, head-six block 0 0 e, tail)
+
+pub count-fixed : (block n : ℕ) → isVariable block ≡ false → count block n ≡ n + 1
+count-fixed block n e = let tail : length (tailIn block) ≡ 0 = ap length (tail-fixed block e) in omega (arith, head-one block 0 0 e, tail)
+
+pub count-between : (block n : ℕ) → (0 < count block n) × (count block n ≤ n + 7)
+count-between block n = go (isVariable block) refl
+  where
+    go : (b : Bool) → isVariable block ≡ b → (0 < count block n) × (count block n ≤ n + 7)
+    go true e = rw (count-variable block n e) (omega arith, omega arith)
+    go false e = rw (count-fixed block n e) (omega arith, omega arith)
+
+-- an unfinished block has a word left
+laid-below : (block : ℕ) (rest : Rest) (kind n : ℕ) → (isPart rest && not (isVariable block)) ≡ false → misshapen rest ≡ false → isOther rest kind n ≡ false
+    → laidOf rest < count block n
+laid-below block Whole kind n v m o = count-between block n .0
+laid-below block (Part k c j) kind n v m o =
+    let a = or-false (ltb most c) _ m .1 in
+    let b = ltb-false (c + 6) j (or-false (ltb j 1) (ltb (c + 6) j) a .1) in
+    let e = eqb-true c n (both-true (eqb k kind) (eqb c n) (not-false _ o) .1) in
+    rw (count-variable block n (not-false _ v)) (omega arith)
+
+-- ---- what the rows of the systems have at most
+pub payload-most : (system : ℕ) → systemOf system .payload ≤ 1920
+payload-most zero = lit≤ tt
+payload-most (suc zero) = lit≤ tt
+payload-most (suc (suc zero)) = lit≤ tt
+payload-most (suc (suc (suc zero))) = lit≤ tt
+payload-most (suc (suc (suc (suc n)))) = lit≤ tt
+
+pub length-most : (system : ℕ) → systemOf system .length ≤ 2304
+length-most zero = lit≤ tt
+length-most (suc zero) = lit≤ tt
+length-most (suc (suc zero)) = lit≤ tt
+length-most (suc (suc (suc zero))) = lit≤ tt
+length-most (suc (suc (suc (suc n)))) = lit≤ tt
+
+-- ---- what an accepted opening finds
+pub record CanOpen (w : Writer) (n : ℕ) (t : Settings) (long : ℕ) : Type 0 where
+  pub known : isSystem (w .system) ≡ true
+  pub moded : isMode (w .mode) ≡ true
+  pub row : Sound (systemOf (w .system))
+  pub state : impossible w ≡ false
+  pub one : 1 ≤ n
+  pub last : n ≤ systemOf (w .system) .lines
+  pub clean : settingsFault (w .system) t ≡ 0
+  pub free : openBlocked w n t ≡ false
+
+pub can-open : (w : Writer) (n : ℕ) (t : Settings) (long : ℕ) → openFault w n t long ≡ 0 → CanOpen w n t long
+unfolding openFault fitsLength
+can-open w n t long e =
+    let c1 = passed 0 _ _ e in
+    let c2 = passed 1 _ _ (c1 .1) in
+    let c9 = passed 8 _ _ (c2 .1) in
+    let c10 = passed-own (settingsFault (w .system) t) _ (c9 .1) in
+    let c20 = passed 19 _ _ (c10 .1) in
+    let fit = both-true (isSystem (w .system)) _ (not-false _ (c1 .0)) in
+    let range = both-true (leb 1 n) _ (not-false _ (c9 .0)) in
+    record {
+      known = fit .0;
+      moded = both-true (isMode (w .mode)) _ (fit .1) .0;
+      row = sound (w .system) (fit .0);
+      state = c2 .0;
+      one = leb-true 1 n (range .0);
+      last = leb-true n _ (range .1);
+      clean = c10 .0;
+      free = c20 .0;
+    }
+
+-- ---- what an accepted addition finds
+pub record CanAdd (w : Writer) (line : List ℕ) (kind : ℕ) (vs : List ℕ) : Type 0 where
+  pub fit : Fit (w .system) (w .mode) line
+  pub state : impossible w ≡ false
+  pub begun : isAt (w .place) ≡ true
+  pub values : valued (w .mode) vs ≡ true
+  pub shape : illShaped (w .place) (w .settings .block) kind (length vs) ≡ false
+  pub number : length vs ≤ most
+  pub byte : kind < 256
+  pub room : placeOf (w .place) < endIn w
+  pub end : endIn w ≤ systemOf (w .system) .payload
+  pub same : isOther (w .rest) kind (length vs) ≡ false
+  pub left : laidOf (w .rest) < count (w .settings .block) (length vs)
+
+pub can-add : (w : Writer) (line : List ℕ) (kind : ℕ) (vs : List ℕ) → addFault w (length line) kind vs ≡ 0 → CanAdd w line kind vs
+unfolding addFault
+can-add w line kind vs e =
+    let n = length vs in
+    let block = w .settings .block in
+    let c1 = passed 0 (not (fitsLength (w .system) (w .mode) (length line))) _ e in
+    let c2 = passed 1 (impossible w) _ (c1 .1) in
+    let c17 = passed 16 (not (valued (w .mode) vs)) _ (c2 .1) in
+    let c18 = passed 17 (illShaped (w .place) block kind n) _ (c17 .1) in
+    let c19 = passed 18 (isFull (endIn w) (w .place)) _ (c18 .1) in
+    let c20 = passed 19 (not (isAt (w .place)) || isOther (w .rest) kind n) 0 (c19 .1) in
+    let o = or-false (not (isAt (w .place))) _ (c20 .0) in
+    let begun = not-false (isAt (w .place)) (o .0) in
+    let f = fit-of w line (c1 .0) in
+    let s = shape-of (w .place) block kind n (c18 .0) in
+    let h = possible w (c2 .0) begun in
+    let area = area-most (systemOf (w .system) .payload) (w .settings .flag) in
+    let end = end-in-area (w .system) (w .settings) (f .0) (h .settings) in
+    record {
+      fit = f .1;
+      state = c2 .0;
+      begun = begun;
+      values = not-false _ (c17 .0);
+      shape = c18 .0;
+      number = s .0;
+      byte = s .1;
+      room = room-of-place (endIn w) (w .place) begun (c19 .0);
+      end = omega (arith, area, end);
+      same = o .1;
+      left = laid-below block (w .rest) kind n (h .variable) (h .shaped) (o .1);
+    }
+
+-- ---- what an accepted closing finds
+pub record CanClose (w : Writer) (line : List ℕ) : Type 0 where
+  pub fit : Fit (w .system) (w .mode) line
+  pub state : impossible w ≡ false
+  pub begun : isAt (w .place) ≡ true
+  pub none-left : (isPart (w .rest) && not (isFull (endIn w) (w .place))) ≡ false
+
+pub can-close : (w : Writer) (line : List ℕ) → closeFault w (length line) ≡ 0 → CanClose w line
+unfolding closeFault
+can-close w line e =
+    let c1 = passed 0 (not (fitsLength (w .system) (w .mode) (length line))) _ e in
+    let c2 = passed 1 (impossible w) _ (c1 .1) in
+    let c20 = passed 19 (not (isAt (w .place)) || (isPart (w .rest) && not (isFull (endIn w) (w .place)))) 0 (c2 .1) in
+    let o = or-false (not (isAt (w .place))) _ (c20 .0) in
+    record { fit = fit-of w line (c1 .0) .1; state = c2 .0; begun = not-false (isAt (w .place)) (o .0); none-left = o .1 }

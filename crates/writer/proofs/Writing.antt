@@ -1,0 +1,283 @@
+-- A line opened, filled by any calls and closed is the line of the definition: what was laid, joined, stands in its area, then filler;
+-- and the line check finds no fault in it.
+-- Assumes nothing.
+use mathlib.Core.Path.{_≡_, refl, sym, ap, ap₂, _∙_, subst}
+use mathlib.Core.Bool.{Bool, true, false, _&&_, _||_, not}
+use mathlib.Core.List.{List, [], _∷_, _++_, append-assoc, append-nil}
+use mathlib.Core.Logic.{_⊎_, inl, inr, ⊎-elim}
+use Prim.Native.Nat.{ℕ, zero, suc, _+_, _-_, _≤_, _<_, min}
+use native.Mathlib.Nat.{sub-zero}
+use native.Mathlib.Omega.{arith}
+use lib.Dec.{T, eqb, leb}
+use lib.ListN.{length, take, drop, replicate, length-append, length-replicate}
+use lib.Seq.{paste, length-take-le, take-at, drop-at}
+use borrow.Author.Tests.{eqb-true, eqb-false, leb-false}
+use Rattle.lists.specs.Tests.{pick}
+use Rattle.lists.specs.Lists.{each}
+use Rattle.lists.proofs.Lists.{each-append}
+use Rattle.line.specs.declared.systems.System.{System}
+use Rattle.line.specs.declared.settings.Settings.{Settings}
+use Rattle.line.specs.declared.course.Last.{Last}
+use Rattle.line.specs.declared.course.Last.the-variants.{Number}
+use Rattle.line.specs.declared.course.Place.{Place}
+use Rattle.line.specs.declared.course.Place.the-variants.{Shut, At}
+use Rattle.line.specs.Systems.{systemOf, isSystem}
+use Rattle.line.specs.Fixed.{isVariable}
+use Rattle.line.specs.Settings.{Held, settingsFault}
+use Rattle.line.specs.Layout.{payloadAt, areaLength, framed, lineWords}
+use Rattle.line.specs.Check.{legal}
+use Rattle.line.specs.Course.{isAt, placeOf, blocksEnd}
+use Rattle.line.proofs.SystemLaws.{Sound}
+use Rattle.line.proofs.Lines.{Buildable, Accepted, accepted}
+use Rattle.writer.specs.declared.state.Writer.{Writer}
+use Rattle.writer.specs.declared.state.Answer.the-variants.{Refused, Done}
+use Rattle.writer.specs.State.{laidOf, endIn, moved}
+use Rattle.writer.specs.Answers.{Left, Added}
+use Rattle.writer.specs.Block.{wordsIn}
+use Rattle.writer.specs.Opening.{openFault, openState, openWords, opening}
+use Rattle.writer.specs.Adding.{addFault, todo, room, lay, adding, isFull}
+use Rattle.writer.specs.Closing.{closeFault, sealed, closing}
+use Rattle.writer.specs.Course.{pieceOf, joined, Filling, filled, adds, tries-opening, tries-closing, Written, areaFrom}
+use Rattle.writer.proofs.Keeps.{open-clear, open-leaves, open-keeps, close-clear, close-leaves, close-keeps, add-leaves, add-stays}
+use Rattle.writer.proofs.Framing.{front, front-length, framed-front, pasted, seals}
+use Rattle.writer.proofs.Legal.{each-take, each-drop, each-filler, filler-legal, words-legal}
+use Rattle.writer.proofs.Refusals.{CanOpen, can-open, can-add, end-in-area, area-most}
+
+-- what holds of an open line, and of the state, while a has been laid
+pub record Open (system mode : ℕ) (f v : Bool) (n : ℕ) (t : Settings) (a : List ℕ) (w : Writer) (line : List ℕ) : Type 0 where
+  pub of-system : w .system ≡ system
+  pub of-mode : w .mode ≡ mode
+  pub of-settings : w .settings ≡ t
+  pub of-place : w .place ≡ At (length a)
+  pub within : length a ≤ areaLength (systemOf system .payload) (t .flag)
+  pub words : each (legal mode (isVariable (t .block))) a ≡ true
+  pub is : line ≡ framed (systemOf system) f v n t (a ++ replicate (systemOf system .payload - length a) 0x200)
+
+-- which way a test goes
+pub either : (n : ℕ) → (n ≡ 0) ⊎ (n ≡ 0 → ⊥)
+either zero = inl refl
+either (suc n) = inr (λ e. omega arith)
+
+-- ---- one addition
+-- the piece of words pasted at their place
+piece-law : (l s : List ℕ) (a p k : ℕ) → a ≤ length l → k ≤ length s → take (p + k - p) (drop a (paste l a s k)) ≡ take k s
+piece-law l s a p k ha hk =
+    let m : p + k - p ≡ k = omega arith in
+    ap₂ take m (ap (drop a) (append-assoc (take a l) (take k s) (drop (a + k) l)) ∙ drop-at (take a l) (take k s ++ drop (a + k) l) a (length-take-le a l ha))
+    ∙ take-at (take k s) (drop (a + k) l) k (length-take-le k s hk)
+
+module _ (system mode : ℕ) (f v : Bool) (n : ℕ) (t : Settings) (held : Held t) (known : isSystem system ≡ true) (row : Sound (systemOf system))
+    (clean : settingsFault system t ≡ 0) where
+  -- what the line is before the payload, and where the payload starts
+  before : List ℕ
+  before = front (systemOf system) f v n t
+
+  before-long : length before ≡ payloadAt (systemOf system)
+  unfolding before
+  before-long = front-length (systemOf system) f v n t held (row .room)
+
+  ends-in : (w : Writer) → w .system ≡ system → w .settings ≡ t → endIn w ≤ areaLength (systemOf system .payload) (t .flag)
+  ends-in w es et =
+      subst (λ (x : ℕ). x ≤ areaLength (systemOf system .payload) (t .flag))
+      (sym (ap₂ (λ (s : ℕ) (u : Settings). blocksEnd (systemOf s .payload) (u .block) (u .flag)) es et)) (end-in-area system t known clean)
+
+  module _ (a : List ℕ) (w : Writer) (line : List ℕ) (o : Open system mode f v n t a w line) (kind : ℕ) (vs : List ℕ)
+      (ok : addFault w (length line) kind vs ≡ 0) where
+    abbrev ws : List ℕ
+    ws = todo w kind vs
+
+    abbrev k : ℕ
+    k = room w (todo w kind vs)
+
+    place-is : placeOf (w .place) ≡ length a
+    place-is = ap placeOf (o .of-place)
+
+    -- what is laid
+    laid : List ℕ
+    laid = take (room w (todo w kind vs)) (todo w kind vs)
+
+    k-most : room w (todo w kind vs) ≤ length (todo w kind vs)
+    k-most = omega arith
+
+    laid-long : length laid ≡ k
+    unfolding laid
+    laid-long = length-take-le (room w (todo w kind vs)) (todo w kind vs) k-most
+
+    fits-in : length a + k ≤ areaLength (systemOf system .payload) (t .flag)
+    fits-in =
+        let end = ends-in w (o .of-system) (o .of-settings) in
+        omega (arith, place-is, can-add w line kind vs ok .room)
+
+    line-now : line ≡ before ++ (a ++ replicate (systemOf system .payload - length a) 0x200)
+    unfolding before
+    line-now = o .is ∙ framed-front (systemOf system) f v n t _
+
+    at-is : payloadAt (systemOf (w .system)) + placeOf (w .place) ≡ length before + length a
+    at-is = ap₂ (λ (s p : ℕ). payloadAt (systemOf s) + p) (o .of-system) place-is ∙ ap (λ (x : ℕ). x + length a) (sym before-long)
+
+    after-line : adding w line kind vs .line ≡ framed (systemOf system) f v n t ((a ++ laid) ++ replicate (systemOf system .payload - length (a ++ laid)) 0x200)
+    unfolding laid before
+    after-line =
+        let p = systemOf system .payload in
+        let long : length (a ++ laid) ≡ length a + room w ws = length-append a laid ∙ ap (λ (x : ℕ). length a + x) laid-long in
+        let rest : p - length a - room w ws ≡ p - length (a ++ laid) = omega arith in
+        ap (λ (x : Added). x .line) (add-leaves w line kind vs ok)
+        ∙ ap₂ (λ (l : List ℕ) (i : ℕ). paste l i (todo w kind vs) (room w (todo w kind vs))) line-now at-is
+        ∙ pasted before a (todo w kind vs) (p - length a) 0x200 (room w (todo w kind vs)) k-most
+        ∙ ap (λ (m : ℕ). before ++ ((a ++ laid) ++ replicate m 0x200)) rest
+        ∙ sym (framed-front (systemOf system) f v n t _)
+
+    after-place : adding w line kind vs .state .place ≡ At (length a + k)
+    after-place = ap (λ (x : Added). x .state .place) (add-leaves w line kind vs ok) ∙ ap (λ (p : ℕ). At (p + k)) place-is
+
+    long-line : length before + length a ≤ length line
+    long-line =
+        let p = systemOf system .payload in
+        let e = ap length line-now ∙ length-append before (a ++ replicate (p - length a) 0x200) in
+        let g = length-append a (replicate (p - length a) 0x200) in
+        omega arith
+
+    piece-is : pieceOf w line kind vs ≡ laid
+    unfolding pieceOf laid
+    piece-is =
+        ap (λ (x : Added). take (placeOf (x .state .place) - placeOf (w .place)) (drop (payloadAt (systemOf (w .system)) + placeOf (w .place)) (x .line))) (add-leaves w line kind vs ok)
+        ∙ piece-law line (todo w kind vs) (payloadAt (systemOf (w .system)) + placeOf (w .place)) (placeOf (w .place)) (room w (todo w kind vs)) (subst (λ (i : ℕ). i ≤ length line) (sym at-is) long-line) k-most
+
+    laid-legal : each (legal mode (isVariable (t .block))) laid ≡ true
+    unfolding laid
+    laid-legal =
+        let x = can-add w line kind vs ok in
+        let words : each (legal mode (isVariable (t .block))) (wordsIn (w .settings .block) (w .mode) kind vs) ≡ true =
+        ap₂ (λ (m : ℕ) (u : Settings). each (legal m (isVariable (u .block))) (wordsIn (w .settings .block) (w .mode) kind vs)) (sym (o .of-mode)) (sym (o .of-settings))
+        ∙ words-legal (w .settings .block) (w .mode) kind vs (x .values) in
+        each-take _ (room w (todo w kind vs)) (todo w kind vs) (each-drop _ (laidOf (w .rest)) (wordsIn (w .settings .block) (w .mode) kind vs) words)
+
+    pub laid-on : Open system mode f v n t (a ++ pieceOf w line kind vs) (adding w line kind vs .state) (adding w line kind vs .line)
+    laid-on =
+        let long : length (a ++ laid) ≡ length a + k = length-append a laid ∙ ap (λ (x : ℕ). length a + x) laid-long in
+        subst (λ (l : List ℕ). Open system mode f v n t (a ++ l) (adding w line kind vs .state) (adding w line kind vs .line)) (sym piece-is)
+        (record {
+          of-system = ap (λ (x : Added). x .state .system) (add-leaves w line kind vs ok) ∙ o .of-system;
+          of-mode = ap (λ (x : Added). x .state .mode) (add-leaves w line kind vs ok) ∙ o .of-mode;
+          of-settings = ap (λ (x : Added). x .state .settings) (add-leaves w line kind vs ok) ∙ o .of-settings;
+          of-place = after-place ∙ ap At (sym long);
+          within = subst (λ (x : ℕ). x ≤ areaLength (systemOf system .payload) (t .flag)) (sym long) fits-in;
+          words = each-append _ a laid (o .words) laid-legal;
+          is = after-line;
+        })
+
+  -- ---- a refused addition lays nothing
+  nothing-laid : (w : Writer) (line : List ℕ) (kind : ℕ) (vs : List ℕ) → (addFault w (length line) kind vs ≡ 0 → ⊥)
+      → (pieceOf w line kind vs ≡ []) × ((adding w line kind vs .state ≡ w) × (adding w line kind vs .line ≡ line))
+  unfolding pieceOf
+  nothing-laid w line kind vs h =
+      let e = add-stays w line kind vs h in
+      let s : adding w line kind vs .state ≡ w = ap (λ (x : Added). x .state) e in
+      let z : placeOf (w .place) - placeOf (w .place) ≡ 0 = omega arith in (
+        ap (λ (u : Writer). take (placeOf (u .place) - placeOf (w .place)) (drop (payloadAt (systemOf (w .system)) + placeOf (w .place)) (adding w line kind vs .line))) s
+            ∙ ap (λ (i : ℕ). take i (drop (payloadAt (systemOf (w .system)) + placeOf (w .place)) (adding w line kind vs .line))) z,
+        (s, ap (λ (x : Added). x .line) e),
+      )
+
+  step-by : (a : List ℕ) (w : Writer) (line : List ℕ) → Open system mode f v n t a w line → (kind : ℕ) (vs : List ℕ)
+      → Open system mode f v n t (a ++ pieceOf w line kind vs) (adding w line kind vs .state) (adding w line kind vs .line)
+  step-by a w line o kind vs =
+      ⊎-elim (λ ok. laid-on a w line o kind vs ok)
+      (λ h.
+      let e = nothing-laid w line kind vs h in
+      let a′ : a ≡ a ++ pieceOf w line kind vs = sym (ap (λ (l : List ℕ). a ++ l) (e .0) ∙ append-nil a) in
+      subst (λ (l : List ℕ). Open system mode f v n t l (adding w line kind vs .state) (adding w line kind vs .line)) a′
+      (subst (λ (u : Writer). Open system mode f v n t a u (adding w line kind vs .line)) (sym (e .1 .0))
+      (subst (λ (l : List ℕ). Open system mode f v n t a w l) (sym (e .1 .1)) o)))
+      (either (addFault w (length line) kind vs))
+
+  -- ---- any calls
+  pub filling : (a : List ℕ) (w : Writer) (line : List ℕ) (w′ : Writer) (line′ : List ℕ) (ps : List (List ℕ)) → Filling w line w′ line′ ps
+      → Open system mode f v n t a w line → Open system mode f v n t (a ++ joined ps) w′ line′
+  filling a w line _ _ _ filled o = subst (λ (l : List ℕ). Open system mode f v n t l w line) (sym (append-nil a)) o
+  filling a w line w′ line′ _ (adds {ps = ps} kind vs more) o =
+      subst (λ (l : List ℕ). Open system mode f v n t l w′ line′) (append-assoc a (pieceOf w line kind vs) (joined ps))
+      (filling (a ++ pieceOf w line kind vs) _ _ w′ line′ ps more (step-by a w line o kind vs))
+  filling a w line w′ line′ ps (tries-opening f′ v′ n′ t′ k e more) o =
+      let z = open-keeps w f′ v′ n′ t′ line k e in
+      filling a _ _ w′ line′ ps more
+      (subst (λ (u : Writer). Open system mode f v n t a u (opening w f′ v′ n′ t′ line .line)) (sym (z .0)) (subst (λ (l : List ℕ). Open system mode f v n t a w l) (sym (z .1)) o))
+  filling a w line w′ line′ ps (tries-closing k e more) o =
+      let z = close-keeps w line k e in
+      filling a _ _ w′ line′ ps more
+      (subst (λ (u : Writer). Open system mode f v n t a u (closing w line .line)) (sym (z .0)) (subst (λ (l : List ℕ). Open system mode f v n t a w l) (sym (z .1)) o))
+
+sum-back : (a k : ℕ) → a ≤ k → a + (k - a) ≡ k
+sum-back a k h = omega arith
+
+-- ---- a line opened, filled and closed
+-- what it is, and that the line check of its system and mode finds no fault in it and reads back its number, settings and area
+pub record Whole (w : Writer) (f v : Bool) (n : ℕ) (t : Settings) (ps : List (List ℕ)) (line : List ℕ) : Type 0 where
+  pub is : line ≡ lineWords (systemOf (w .system)) f v n t (areaFrom (systemOf (w .system) .payload) (t .flag) ps)
+  pub fits : length (joined ps) ≤ areaLength (systemOf (w .system) .payload) (t .flag)
+  pub accepts : Accepted (w .system) (w .mode) n t (areaFrom (systemOf (w .system) .payload) (t .flag) ps) line
+
+module _ (w : Writer) (f v : Bool) (n : ℕ) (t : Settings) (lent : List ℕ) (w′ : Writer) (line : List ℕ) (ps : List (List ℕ)) (held : Held t)
+    (c : Written w f v n t lent w′ line ps) where
+  start : CanOpen w n t (length lent)
+  start = can-open w n t (length lent) (open-clear w f v n t lent (c .open-done))
+
+  opened-line : Open (w .system) (w .mode) f v n t [] (opening w f v n t lent .state) (opening w f v n t lent .line)
+  unfolding openWords
+  opened-line =
+      let e = open-leaves w f v n t lent (open-clear w f v n t lent (c .open-done)) in
+      record {
+        of-system = ap (λ (x : Left). x .state .system) e;
+        of-mode = ap (λ (x : Left). x .state .mode) e;
+        of-settings = ap (λ (x : Left). x .state .settings) e;
+        of-place = ap (λ (x : Left). x .state .place) e;
+        within = omega arith;
+        words = refl;
+        is = ap (λ (x : Left). x .line) e
+            ∙ ap (λ (m : ℕ). framed (systemOf (w .system)) f v n t (replicate m 0x200)) (sym (sub-zero (systemOf (w .system) .payload)));
+      }
+
+  filled-line : Open (w .system) (w .mode) f v n t (joined ps) (c .last) (c .full)
+  filled-line =
+      filling (w .system) (w .mode) f v n t held (start .known) (start .row) (start .clean) [] _ _ (c .last) (c .full) ps (c .calls) opened-line
+
+  closed-line : line ≡ lineWords (systemOf (w .system)) f v n t (areaFrom (systemOf (w .system) .payload) (t .flag) ps)
+  unfolding areaFrom
+  closed-line =
+      let o = filled-line in
+      let e = close-leaves (c .last) (c .full) (close-clear (c .last) (c .full) (c .close-done)) in
+      c .line-is
+      ∙ ap (λ (x : Left). x .line) e
+      ∙ ap₂ (λ (s : ℕ) (u : Settings). sealed (systemOf s) (u .flag) (c .full)) (o .of-system) (o .of-settings)
+      ∙ ap (sealed (systemOf (w .system)) (t .flag)) (o .is)
+      ∙ seals (systemOf (w .system)) f v n t held (start .row .room) (joined ps) (o .within) (area-most (systemOf (w .system) .payload) (t .flag))
+
+  buildable : Buildable (w .system) (w .mode) n t (areaFrom (systemOf (w .system) .payload) (t .flag) ps)
+  unfolding areaFrom
+  buildable =
+      let o = filled-line in
+      let k = areaLength (systemOf (w .system) .payload) (t .flag) in
+      record {
+        known = start .known;
+        moded = start .moded;
+        one = start .one;
+        most = start .last;
+        held = held;
+        clean = start .clean;
+        fills =
+            length-append (joined ps) (replicate (k - length (joined ps)) 0x200)
+            ∙ ap (λ (x : ℕ). length (joined ps) + x) (length-replicate (k - length (joined ps)) 0x200)
+            ∙ sum-back (length (joined ps)) k (o .within);
+        legals =
+            each-append _ (joined ps) (replicate (k - length (joined ps)) 0x200) (o .words)
+            (each-filler _ (k - length (joined ps)) 0x200 (filler-legal (w .mode) (isVariable (t .block))));
+      }
+
+  pub written : Whole w f v n t ps line
+  written = record {
+    is = closed-line;
+    fits = filled-line .within;
+    accepts =
+        subst (λ (l : List ℕ). Accepted (w .system) (w .mode) n t (areaFrom (systemOf (w .system) .payload) (t .flag) ps) l) (sym closed-line)
+        (accepted (w .system) (w .mode) f v n t (areaFrom (systemOf (w .system) .payload) (t .flag) ps) buildable);
+  }

@@ -1,0 +1,120 @@
+-- `writer::block::lay_rest` meets its contract. Assumes nothing.
+use mathlib.Core.Path.{sym, ap, _∙_}
+use mathlib.Core.List.{map}
+use Prim.Native.Nat.{ℕ, min}
+use lib.ListN.{length, take, drop, length-map}
+use Rattle.words.specs.Modes.{wordOf}
+use Rattle.writer.specs.Block.{tailIn}
+use Rattle.writer.proofs.FillLaws.{part-map, front-long, part-long, second-in, laid-by-two}
+use borrow.Author.Needs.{needs}
+use Rattle.writer.proofs.block.lay_rest.Statement.{statement}
+use Rattle.writer.proofs.block.lay_rest.Tie as tie
+
+less-requires : tie.Need-less-requires
+less-requires c κs = search needs
+
+at-most-requires : tie.Need-at-most-requires
+at-most-requires c κs = search needs
+
+at-most-requires-2 : tie.Need-at-most-requires-2
+at-most-requires-2 c κs = search needs
+
+add-e : tie.Need-add-e
+add-e c = search needs
+
+mul-put-values : tie.Need-mul-put-values
+mul-put-values c = search needs
+
+sub-put-values : tie.Need-sub-put-values
+sub-put-values c = search needs
+
+part-put-values-start : tie.Need-part-put-values-start
+part-put-values-start c = search needs
+
+part-put-values-end : tie.Need-part-put-values-end
+part-put-values-end c = search needs
+
+slice-relend-prefix-put-values : tie.Need-slice-relend-prefix-put-values
+slice-relend-prefix-put-values c = search needs
+
+slice-aggregate-put-values : tie.Need-slice-aggregate-put-values
+slice-aggregate-put-values c =
+    let m = c .before .before .before in
+    let a = m .before .before .before .before .args in
+    sym (front-long (length (a .values .now)) (a .j) (m .at-most .result) (a .out .now) (m .at-most .ensures ∙ ap (min (length (a .out .now))) (m .before .less .ensures)))
+
+put-values-requires : tie.Need-put-values-requires
+put-values-requires c κs =
+    let q = c .before .before in
+    let m = q .before in
+    let a = m .before .before .before .before .args in
+    part-long (a .j) (q .at-most2 .result) (m .at-most .result) (a .out .now) (a .values .now)
+    (m .at-most .ensures ∙ ap (min (length (a .out .now))) (m .before .less .ensures)) (q .at-most2 .ensures)
+
+less-requires-2 : tie.Need-less-requires-2
+less-requires-2 c κs = search needs
+
+mul-lay-tail : tie.Need-mul-lay-tail
+mul-lay-tail c = search needs
+
+sub-lay-tail : tie.Need-sub-lay-tail
+sub-lay-tail c = search needs
+
+part-lay-tail-start : tie.Need-part-lay-tail-start
+part-lay-tail-start c = search needs
+
+part-lay-tail-end : tie.Need-part-lay-tail-end
+part-lay-tail-end c = search needs
+
+lay-tail-requires : tie.Need-lay-tail-requires
+lay-tail-requires c κs =
+    let p = c .before .before .before .before in
+    let q = p .before .before .before in
+    let m = q .before in
+    let a = m .before .before .before .before .args in
+    let f = wordOf (a .mode) in
+    let v = a .values .now in
+    let k = m .at-most .result in
+    let is = p .put-values .ensures ∙ part-map f (q .at-most2 .result) k v ∙ ap (λ (i : ℕ). take k (drop i (map f v))) (q .at-most2 .ensures) in
+    let some = m .at-most .ensures ∙ ap (min (length (a .out .now))) (m .before .less .ensures) in
+    second-in (a .j) (length v) k (map f v) (tailIn (a .block)) (a .out .now) _ (length-map v f) some is _ _ (c .before .less2 .ensures) (m .before .before .before .before .pre)
+
+same-length : tie.Need-same-length
+same-length c = search needs
+
+returns : tie.Need-returns
+returns c =
+    let p = c .before .before .before .before .before .before .before in
+    let q = p .before .before .before in
+    let m = q .before in
+    let a = m .before .before .before .before .args in
+    let f = wordOf (a .mode) in
+    let v = a .values .now in
+    let k = m .at-most .result in
+    let is = p .put-values .ensures ∙ part-map f (q .at-most2 .result) k v ∙ ap (λ (i : ℕ). take k (drop i (map f v))) (q .at-most2 .ensures) in
+    let some = m .at-most .ensures ∙ ap (min (length (a .out .now))) (m .before .less .ensures) in
+    laid-by-two (a .j) (length v) k (map f v) (tailIn (a .block)) (a .out .now) _ (length-map v f) some is _ _ (c .before .before .before .before .less2 .ensures) (c .before .before .lay-tail .ensures)
+
+pub lay-rest-spec : {M : Type 1} → statement M
+lay-rest-spec =
+    tie.close
+    (tie.spec
+    less-requires
+    at-most-requires
+    at-most-requires-2
+    add-e
+    mul-put-values
+    sub-put-values
+    part-put-values-start
+    part-put-values-end
+    slice-relend-prefix-put-values
+    slice-aggregate-put-values
+    put-values-requires
+    less-requires-2
+    mul-lay-tail
+    sub-lay-tail
+    part-lay-tail-start
+    part-lay-tail-end
+    lay-tail-requires
+    same-length
+    returns)

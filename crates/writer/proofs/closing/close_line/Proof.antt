@@ -1,0 +1,43 @@
+-- `writer::closing::close_line` meets its contract. Assumes nothing.
+use mathlib.Core.Path.{_≡_, sym, ap, _∙_, subst}
+use lib.ListN.{length}
+use Prim.Native.Nat.{_+_, _≤_}
+use Rattle.line.specs.declared.systems.System.{System}
+use Rattle.writer.specs.Closing.{sealed}
+use Rattle.writer.proofs.Refusals.{can-close}
+use Rattle.writer.proofs.Calls.{close-refused, close-done}
+use borrow.Author.Needs.{needs}
+use Rattle.writer.proofs.closing.close_line.Statement.{statement}
+use Rattle.writer.proofs.closing.close_line.Tie as tie
+
+close-fault-requires : tie.Need-close-fault-requires
+close-fault-requires c κs = search needs
+
+returns : tie.Need-returns
+returns c =
+    let a = c .before .before .before .args in
+    close-refused (a .w) (a .line .now) _ (c .before .close-fault .ensures) (c .if1 .taken)
+
+system-of-requires : tie.Need-system-of-requires
+system-of-requires c κs = search needs
+
+seal-requires : tie.Need-seal-requires
+seal-requires c κs =
+    let a = c .before .before .before .before .before .before .args in
+    let fit = can-close (a .w) (a .line .now) (sym (c .before .before .before .before .close-fault .ensures) ∙ c .before .before .before .if1 .left) .fit in
+    subst (λ (s : System). (s .payload + 61 ≤ s .length) × (2 ≤ s .payload) × (s .length ≡ length (a .line .now))) (sym (c .before .before .system-of .ensures))
+    (fit .row .room, fit .row .area, fit .long)
+
+same-length : tie.Need-same-length
+same-length c = search needs
+
+returns-2 : tie.Need-returns-2
+returns-2 c =
+    let a = c .before .before .before .before .before .before .before .before .before .args in
+    close-done (a .w) (a .line .now) _ (c .before .before .before .before .before .before .before .close-fault .ensures) (c .before .before .before .before .before .before .if1 .left) _
+    (c .before .before .seal .ensures ∙ ap (λ (s : System). sealed s (a .w .settings .flag) (a .line .now)) (c .before .before .before .before .before .system-of .ensures))
+
+pub close-line-spec : {M : Type 1} → statement M
+close-line-spec =
+    tie.close
+    (tie.spec close-fault-requires returns system-of-requires seal-requires same-length returns-2)

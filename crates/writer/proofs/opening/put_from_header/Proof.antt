@@ -1,0 +1,73 @@
+-- `writer::opening::put_from_header` meets its contract. Assumes nothing.
+use mathlib.Core.Path.{_≡_, sym, ap, _∙_}
+use mathlib.Core.Bool.{false}
+use mathlib.Core.List.{List, _++_}
+use Prim.Native.Nat.{ℕ, _-_}
+use native.Mathlib.Omega.{arith}
+use lib.ListN.{length, replicate}
+use lib.Seq.{length-take-le}
+use Rattle.line.specs.Timing.{timingWords}
+use Rattle.line.specs.Header.{headerWords}
+use Rattle.line.specs.Layout.{gapWords}
+use Rattle.writer.proofs.Frame.{by-two}
+use borrow.Author.Needs.{needs}
+use Rattle.writer.proofs.opening.put_from_header.Statement.{statement}
+use Rattle.writer.proofs.opening.put_from_header.Tie as tie
+
+header-words-requires : tie.Need-header-words-requires
+header-words-requires c κs = search needs
+
+slice-aggregate-copy-in : tie.Need-slice-aggregate-copy-in
+slice-aggregate-copy-in c = search needs
+
+slice-relend-prefix-copy-in : tie.Need-slice-relend-prefix-copy-in
+slice-relend-prefix-copy-in c = search needs
+
+slice-aggregate-copy-in-2 : tie.Need-slice-aggregate-copy-in-2
+slice-aggregate-copy-in-2 c = sym (length-take-le 53 (c .before .before .before .before .args .out .now) (omega (arith, c .before .before .before .before .pre)))
+
+copy-in-requires : tie.Need-copy-in-requires
+copy-in-requires c κs =
+    let header : length (c .before .before .header-words .result) ≡ 53 = search needs in
+    length-take-le 53 (c .before .before .before .before .args .out .now) (omega (arith, c .before .before .before .before .pre)) ∙ sym header
+
+sub-put-from-gap : tie.Need-sub-put-from-gap
+sub-put-from-gap c = search needs
+
+part-put-from-gap-start : tie.Need-part-put-from-gap-start
+part-put-from-gap-start c = search needs
+
+part-put-from-gap-end : tie.Need-part-put-from-gap-end
+part-put-from-gap-end c = search needs
+
+put-from-gap-requires : tie.Need-put-from-gap-requires
+put-from-gap-requires c κs = search needs
+
+same-length : tie.Need-same-length
+same-length c = search needs
+
+returns : tie.Need-returns
+returns c =
+    let a = c .before .before .before .before .before .before .before .before .before .before .before .args in
+    let h = c .before .before .before .before .before .before .before .before .before .header-words in
+    let header : length (h .result) ≡ 53 = search needs in
+    let inside = c .before .before .before .before .before .before .before .before .before .before .before .pre in
+    let rest : ℕ → List ℕ = λ (k : ℕ). gapWords 57 (a .gap) ++ (timingWords (a .f) (a .v) false ++ replicate (k - a .gap - 4) 0x200) in
+    by-two (a .out .now) _ _ (headerWords (a .n) (a .t)) rest 53 (omega (arith, inside)) (ap length (sym (h .ensures)) ∙ header)
+    (c .before .before .before .before .before .before .copy-in .ensures ∙ h .ensures) (c .before .before .put-from-gap .ensures)
+
+pub put-from-header-spec : {M : Type 1} → statement M
+put-from-header-spec =
+    tie.close
+    (tie.spec
+    header-words-requires
+    slice-aggregate-copy-in
+    slice-relend-prefix-copy-in
+    slice-aggregate-copy-in-2
+    copy-in-requires
+    sub-put-from-gap
+    part-put-from-gap-start
+    part-put-from-gap-end
+    put-from-gap-requires
+    same-length
+    returns)

@@ -1,0 +1,38 @@
+-- Closing a line: answers 1, 2, 20, and what stands in the line and the state afterwards.
+-- Assumes nothing.
+use Prim.Native.Nat.{ℕ, _+_}
+use mathlib.Core.Bool.{Bool, _&&_, _||_, not}
+use mathlib.Core.List.{List, [], _∷_, _++_}
+use lib.Dec.{eqb}
+use lib.ListN.{length, take}
+use Rattle.lists.specs.Tests.{pick, when, lowestOf}
+use Rattle.line.specs.declared.systems.System.{System}
+use Rattle.line.specs.declared.course.Place.the-variants.{Shut}
+use Rattle.line.specs.Systems.{systemOf}
+use Rattle.line.specs.Layout.{payloadAt, areaLength, areaOf, endWords}
+use Rattle.line.specs.Check.{fitsLength}
+use Rattle.line.specs.Course.{isAt}
+use Rattle.writer.specs.declared.state.Writer.{Writer}
+use Rattle.writer.specs.declared.state.Answer.the-variants.{Refused, Done}
+use Rattle.writer.specs.State.{isPart, impossible, endIn, moved}
+use Rattle.writer.specs.Answers.{Left, left}
+use Rattle.writer.specs.Adding.{isFull}
+
+-- 1; 2; 20: none open, or unfinished block and a word left in the area
+unfoldable pub closeFault : Writer → ℕ → ℕ
+closeFault w long =
+    lowestOf
+    (when 1 (not (fitsLength (w .system) (w .mode) long))
+    ∷ when 2 (impossible w)
+    ∷ when 20 (not (isAt (w .place)) || (isPart (w .rest) && not (isFull (endIn w) (w .place))))
+    ∷ [])
+
+-- Closing writes the payload CRC: of the area as the line has it, behind the area.
+unfoldable pub sealed : System → ℕ → List ℕ → List ℕ
+sealed s flag line = take (payloadAt s + areaLength (s .payload) flag) line ++ endWords flag (areaOf s flag line)
+
+-- a refusal leaves line and state
+unfoldable pub closing : Writer → List ℕ → Left
+closing w line =
+    let fault = closeFault w (length line) in
+    pick (eqb fault 0) (left Done (moved w Shut (w .rest)) (sealed (systemOf (w .system)) (w .settings .flag) line)) (left (Refused fault) w line)

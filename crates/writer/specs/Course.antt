@@ -1,0 +1,66 @@
+-- Courses of calls: a line opened, filled and closed; and a block laid by one or several calls.
+-- Assumes nothing.
+use mathlib.Core.Path.{_≡_}
+use Prim.Native.Nat.{ℕ, _+_, _-_}
+use mathlib.Core.Bool.{Bool}
+use mathlib.Core.List.{List, [], _∷_, _++_}
+use lib.ListN.{length, take, drop, replicate}
+use Rattle.line.specs.declared.settings.Settings.{Settings}
+use Rattle.line.specs.Systems.{systemOf}
+use Rattle.line.specs.Layout.{payloadAt, areaLength}
+use Rattle.line.specs.Course.{placeOf}
+use Rattle.writer.specs.declared.state.Writer.{Writer}
+use Rattle.writer.specs.declared.state.Answer.the-variants.{Refused, Done}
+use Rattle.writer.specs.declared.state.Laid.the-variants.{Finished, Unfinished}
+use Rattle.writer.specs.Opening.{opening}
+use Rattle.writer.specs.Adding.{adding}
+use Rattle.writer.specs.Closing.{closing}
+
+-- what an addition laid: the words from the place before it to the place after it, as the line then has them; a refused one laid none
+unfoldable pub pieceOf : Writer → List ℕ → ℕ → List ℕ → List ℕ
+pieceOf w line kind vs =
+    let x = adding w line kind vs in
+    take (placeOf (x .state .place) - placeOf (w .place)) (drop (payloadAt (systemOf (w .system)) + placeOf (w .place)) (x .line))
+
+abbrev pub joined : List (List ℕ) → List ℕ
+joined [] = []
+joined (p ∷ ps) = p ++ joined ps
+
+-- calls on an open line, one after another: additions, accepted or refused, and refused openings and closings;
+-- from a state and a line to a state and a line, with the pieces laid
+pub data Filling : Writer → List ℕ → Writer → List ℕ → List (List ℕ) → Type 0 where
+  filled : {w : Writer} {line : List ℕ} → Filling w line w line []
+  adds : {w w′ : Writer} {line line′ : List ℕ} {ps : List (List ℕ)} (kind : ℕ) (vs : List ℕ)
+      → Filling (adding w line kind vs .state) (adding w line kind vs .line) w′ line′ ps
+      → Filling w line w′ line′ (pieceOf w line kind vs ∷ ps)
+  tries-opening : {w w′ : Writer} {line line′ : List ℕ} {ps : List (List ℕ)} (f v : Bool) (n : ℕ) (t : Settings) (k : ℕ)
+      → opening w f v n t line .answer ≡ Refused k
+      → Filling (opening w f v n t line .state) (opening w f v n t line .line) w′ line′ ps → Filling w line w′ line′ ps
+  tries-closing : {w w′ : Writer} {line line′ : List ℕ} {ps : List (List ℕ)} (k : ℕ)
+      → closing w line .answer ≡ Refused k → Filling (closing w line .state) (closing w line .line) w′ line′ ps → Filling w line w′ line′ ps
+
+-- a line opened, filled and closed
+pub record Written (w : Writer) (f v : Bool) (n : ℕ) (t : Settings) (lent : List ℕ) (w′ : Writer) (line : List ℕ) (ps : List (List ℕ)) : Type 0 where
+  pub open-done : opening w f v n t lent .answer ≡ Done
+  pub last : Writer
+  pub full : List ℕ
+  pub calls : Filling (opening w f v n t lent .state) (opening w f v n t lent .line) last full ps
+  pub close-done : closing last full .answer ≡ Done
+  pub state-is : w′ ≡ closing last full .state
+  pub line-is : line ≡ closing last full .line
+
+-- the pieces joined, then filler, to the area's end
+unfoldable pub areaFrom : ℕ → ℕ → List (List ℕ) → List ℕ
+areaFrom p flag ps = joined ps ++ replicate (areaLength p flag - length (joined ps)) 0x200
+
+-- additions of one block, on whatever lines, until it is finished; the pieces laid. Each call may lend other values.
+-- The next line is opened with the same settings: the unfinished block stays.
+pub record Goes (x y : Writer) : Type 0 where
+  pub mode : y .mode ≡ x .mode
+  pub block : y .settings .block ≡ x .settings .block
+  pub rest : y .rest ≡ x .rest
+
+pub data Laying (kind : ℕ) (vs : List ℕ) : Writer → List (List ℕ) → Type 0 where
+  ends : {w : Writer} (line : List ℕ) → adding w line kind vs .answer ≡ Finished → Laying kind vs w (pieceOf w line kind vs ∷ [])
+  goes : {w next : Writer} {ps : List (List ℕ)} (line : List ℕ) → adding w line kind vs .answer ≡ Unfinished
+      → Goes (adding w line kind vs .state) next → Laying kind vs next ps → Laying kind vs w (pieceOf w line kind vs ∷ ps)

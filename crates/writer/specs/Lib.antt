@@ -1,0 +1,7 @@
+pub mod State
+pub mod Block
+pub mod Answers
+pub mod Opening
+pub mod Adding
+pub mod Closing
+pub mod Course

@@ -1,0 +1,56 @@
+-- Opening a line: answers 1, 2, 9-14, 20, and what stands in the line and the state afterwards.
+-- Assumes nothing.
+use Prim.Native.Nat.{ℕ}
+use mathlib.Core.Bool.{Bool, _&&_, _||_, not}
+use mathlib.Core.List.{List, [], _∷_}
+use lib.Dec.{eqb, leb}
+use lib.ListN.{length, replicate}
+use Rattle.lists.specs.Tests.{pick, when, lowestOf}
+use Rattle.line.specs.declared.settings.Settings.{Settings}
+use Rattle.line.specs.declared.course.Last.{Last}
+use Rattle.line.specs.declared.course.Last.the-variants.{Unknown, Number}
+use Rattle.line.specs.declared.course.Place.the-variants.{At}
+use Rattle.line.specs.Systems.{systemOf}
+use Rattle.line.specs.Settings.{settingsFault, sameSettings}
+use Rattle.line.specs.Layout.{framed}
+use Rattle.line.specs.Check.{fitsLength}
+use Rattle.line.specs.Course.{isAt, nextNumber}
+use Rattle.writer.specs.declared.state.Writer.{Writer}
+use Rattle.writer.specs.declared.state.Answer.the-variants.{Refused, Done}
+use Rattle.writer.specs.State.{isPart, impossible}
+use Rattle.writer.specs.Answers.{Left, left}
+
+-- the number that comes next; with no last number none does
+abbrev pub isNext : ℕ → Last → ℕ → Bool
+isNext lines Unknown n = eqb n 0
+isNext lines (Number x) n = eqb n (nextNumber lines x)
+
+-- 20: line open already, or unfinished block and a changed setting or a number that isn't next
+unfoldable pub openBlocked : Writer → ℕ → Settings → Bool
+openBlocked w n t =
+    isAt (w .place) || (isPart (w .rest) && (not (sameSettings t (w .settings)) || not (isNext (systemOf (w .system) .lines) (w .last) n)))
+
+-- 1; 2; 9: line number not 1..N; 10 to 14; 20
+unfoldable pub openFault : Writer → ℕ → Settings → ℕ → ℕ
+openFault w n t long =
+    lowestOf
+    (when 1 (not (fitsLength (w .system) (w .mode) long))
+    ∷ when 2 (impossible w)
+    ∷ when 9 (not (leb 1 n && leb n (systemOf (w .system) .lines)))
+    ∷ when (settingsFault (w .system) t) (not (eqb (settingsFault (w .system) t) 0))
+    ∷ when 20 (openBlocked w n t)
+    ∷ [])
+
+-- the state of an opened line, at its first word; an unfinished block stays
+abbrev pub openState : Writer → ℕ → Settings → Writer
+openState w n t = record { system = w .system; mode = w .mode; last = Number n; settings = t; place = At 0; rest = w .rest }
+
+-- Opening writes L words, the payload all 200h.
+unfoldable pub openWords : ℕ → Bool → Bool → ℕ → Settings → List ℕ
+openWords system f v n t = framed (systemOf system) f v n t (replicate (systemOf system .payload) 0x200)
+
+-- a refusal leaves line and state
+unfoldable pub opening : Writer → Bool → Bool → ℕ → Settings → List ℕ → Left
+opening w f v n t line =
+    let fault = openFault w n t (length line) in
+    pick (eqb fault 0) (left Done (openState w n t) (openWords (w .system) f v n t)) (left (Refused fault) w line)

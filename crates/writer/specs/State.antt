@@ -1,0 +1,48 @@
+-- The writer's state, and which states are impossible.
+-- Assumes nothing.
+use Prim.Native.Nat.{ℕ, _+_}
+use mathlib.Core.Bool.{Bool, true, false, _||_, not}
+use lib.Dec.{leb, ltb}
+use Rattle.line.specs.declared.course.Last.the-variants.{Unknown}
+use Rattle.line.specs.declared.course.Place.{Place}
+use Rattle.line.specs.declared.course.Place.the-variants.{Shut}
+use Rattle.line.specs.Settings.{noSettings}
+use Rattle.line.specs.Systems.{systemOf}
+use Rattle.line.specs.Course.{impossibleAfter, blocksEnd}
+use Rattle.writer.specs.declared.state.Rest.{Rest}
+use Rattle.writer.specs.declared.state.Rest.the-variants.{Whole, Part}
+use Rattle.writer.specs.declared.state.Writer.{Writer}
+
+-- n is at most 16,384
+abbrev pub most : ℕ
+most = 16384
+
+-- an unfinished block, and the words of it that are laid
+abbrev pub isPart : Rest → Bool
+isPart Whole = false
+isPart (Part k n j) = true
+
+abbrev pub laidOf : Rest → ℕ
+laidOf Whole = 0
+laidOf (Part k n j) = j
+
+-- Fresh: no number, line or block, settings zero.
+abbrev pub fresh : ℕ → ℕ → Writer
+fresh system mode = record { system = system; mode = mode; last = Unknown; settings = noSettings; place = Shut; rest = Whole }
+
+-- an unfinished block has n at most 16,384, and 1 to n+6 words laid
+abbrev pub misshapen : Rest → Bool
+misshapen Whole = false
+misshapen (Part k n j) = ltb most n || (ltb j 1 || ltb (n + 6) j)
+
+-- the impossible rule, of lines and of the unfinished block
+unfoldable pub impossible : Writer → Bool
+impossible w = impossibleAfter (w .system) (w .last) (w .settings) (w .place) (isPart (w .rest)) || misshapen (w .rest)
+
+-- how many words of the open line's area blocks may stand in
+abbrev pub endIn : Writer → ℕ
+endIn w = blocksEnd (systemOf (w .system) .payload) (w .settings .block) (w .settings .flag)
+
+-- the state with another place and rest
+abbrev pub moved : Writer → Place → Rest → Writer
+moved w p r = record { system = w .system; mode = w .mode; last = w .last; settings = w .settings; place = p; rest = r }

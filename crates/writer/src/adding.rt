@@ -1,0 +1,161 @@
+// Adding a block: as much of it as fits is laid; the next call lends the same block again.
+use crate::block;
+use crate::fill;
+use crate::state;
+use crate::state::Laid;
+use crate::state::Rest;
+use crate::state::Writer;
+use line::check;
+use line::course;
+use line::course::Place;
+use line::systems;
+ghost use mathlib.Core.Path.{_≡_};
+ghost use Prim.Native.Nat.{_+_, _≤_, _<_};
+ghost use lib.Dec.{eqb, ltb};
+ghost use lib.ListN.{length};
+ghost use Rattle.lists.specs.Tests.{pick};
+ghost use Rattle.lists.specs.Lists.{each};
+ghost use Rattle.writer.specs.Answers.{added};
+ghost use Rattle.writer.specs.Adding.{valued, illShaped, isFull, isOther, addFault, adding};
+
+// What adding leaves beside the line.
+pub struct Addition {
+    pub answer: Laid,
+    pub state: Writer,
+}
+
+// Each value is one of the mode's.
+fn is_valued(mode: u8, values: &[u16]) -> bool
+    ensures { λ r. ⌜ r ≡ valued mode (now (values .entry)) ⌝ }
+{
+    let limit = words::forms::values_of(mode);
+    all_below(limit, values)
+}
+
+// Each value is below the limit. Every value is looked at, so that the loop has no early exit.
+fn all_below(limit: u16, s: &[u16]) -> bool
+    ensures { λ r. ⌜ r ≡ each (λ v. ltb v limit) (now (s .entry)) ⌝ }
+{
+    let mut ok = true;
+    let mut i = 0;
+    while i < s.len() {
+        ok = ok & (s[i] < limit);
+        i += 1;
+    }
+    ok
+}
+
+// n above 16,384 or type above FFh; fixed line open: n not size-1 or type 00h.
+fn is_ill_shaped(place: Place, block: u8, kind: u16, n: usize) -> bool
+    ensures { λ r. ⌜ r ≡ illShaped place block kind n ⌝ }
+{
+    if 16384 < n {
+        return true;
+    }
+    let size = line::fixed::size_of(block) as usize;
+    let fixed = course::is_at(place) & !line::fixed::is_variable(block);
+    (255 < kind) | (fixed & ((n + 1 != size) | (kind == 0)))
+}
+
+// No place (variable: word) left in the open line.
+pub(crate) fn is_full(end: usize, place: Place) -> bool
+    ensures { λ r. ⌜ r ≡ isFull end place ⌝ }
+{
+    match place {
+        Place::Shut => false,
+        Place::At(p) => end <= p as usize,
+    }
+}
+
+// An unfinished block, and another type or length lent.
+fn is_other(rest: Rest, kind: u16, n: usize) -> bool
+    ensures { λ r. ⌜ r ≡ isOther rest kind n ⌝ }
+{
+    match rest {
+        Rest::Whole => false,
+        Rest::Part {
+            kind: k,
+            count,
+            laid: _,
+        } => !((k as u16 == kind) & (count as usize == n)),
+    }
+}
+
+// The lowest number whose condition holds, or 0: from the last condition to the first.
+fn add_fault(w: Writer, long: usize, kind: u16, values: &[u16]) -> u8
+    ensures { λ r. ⌜ r ≡ addFault w long kind (now (values .entry)) ⌝ }
+{
+    let place = w.place;
+    let rest = w.rest;
+    let n = values.len();
+    let r20 = lists::or_else(!course::is_at(place) | is_other(rest, kind, n), 20, 0);
+    let r19 = lists::or_else(is_full(state::end_in(w), place), 19, r20);
+    let r18 = lists::or_else(is_ill_shaped(place, w.settings.block, kind, n), 18, r19);
+    let r17 = lists::or_else(!is_valued(w.mode, values), 17, r18);
+    let r2 = lists::or_else(state::is_impossible(w), 2, r17);
+    lists::or_else(!check::is_fit(w.system, w.mode, long), 1, r2)
+}
+
+// What is unfinished after k of the left words.
+fn rest_after(left: usize, k: usize, kind: u16, n: usize, laid: usize) -> Rest
+    requires { ⌜ (kind < 256) × (n ≤ 16384) × (laid + k < 65536) ⌝ }
+    ensures { λ r. ⌜ r ≡ pick (eqb k left) Rest.Whole (Rest.Part kind n (laid + k)) ⌝ }
+{
+    if k == left {
+        return Rest::Whole;
+    }
+    Rest::Part {
+        kind: kind as u8,
+        count: n as u16,
+        laid: (laid + k) as u16,
+    }
+}
+
+// Finished where all the left words were laid.
+fn told(left: usize, k: usize) -> Laid
+    ensures { λ r. ⌜ r ≡ pick (eqb k left) Laid.Finished Laid.Unfinished ⌝ }
+{
+    if k == left {
+        Laid::Finished
+    } else {
+        Laid::Unfinished
+    }
+}
+
+// Adds a block, or goes on with the unfinished one.
+pub fn add_block(w: Writer, kind: u16, values: &[u16], line: &mut [u16]) -> Addition
+    ensures { λ r. ⌜ added (r .answer) (r .state) (now (line .exit)) ≡ adding w (now (line .entry)) kind (now (values .entry)) ⌝ }
+{
+    let fault = add_fault(w, line.len(), kind, values);
+    if fault != 0 {
+        return Addition {
+            answer: Laid::Not(fault),
+            state: w,
+        };
+    }
+    let s = systems::system_of(w.system);
+    let settings = w.settings;
+    let last = w.last;
+    let at = w.place;
+    let rest = w.rest;
+    let place = course::place_of(at);
+    let laid = state::laid_of(rest);
+    let left = block::total(settings.block, values.len()) - laid;
+    let k = fill::at_most(state::end_in(w) - place, left);
+    let a = s.length - s.payload + place;
+    let e = a + k;
+    block::lay_words(settings.block, w.mode, kind, values, laid, &mut line[a..e]);
+    let after = rest_after(left, k, kind, values.len(), laid);
+    let state = Writer {
+        system: w.system,
+        mode: w.mode,
+        last: last,
+        settings: settings,
+        place: Place::At((place + k) as u16),
+        rest: after,
+    };
+    Addition {
+        answer: told(left, k),
+        state: state,
+    }
+}

@@ -1,0 +1,72 @@
+// Closing a line: with flag 01h the CRC of the area is written behind it, with 00h nothing.
+use crate::adding;
+use crate::opening::Reply;
+use crate::state;
+use crate::state::Answer;
+use crate::state::Writer;
+use line::check;
+use line::course;
+use line::course::Place;
+use line::systems;
+use line::systems::System;
+ghost use mathlib.Core.Path.{_≡_};
+ghost use Prim.Native.Nat.{_+_, _≤_};
+ghost use lib.ListN.{length};
+ghost use Rattle.writer.specs.Answers.{left};
+ghost use Rattle.writer.specs.Closing.{closeFault, sealed, closing};
+
+// The lowest number whose condition holds, or 0: from the last condition to the first.
+fn close_fault(w: Writer, long: usize) -> u8
+    ensures { λ r. ⌜ r ≡ closeFault w long ⌝ }
+{
+    let place = w.place;
+    let rest = w.rest;
+    let left = state::is_part(rest) & !adding::is_full(state::end_in(w), place);
+    let r20 = lists::or_else(!course::is_at(place) | left, 20, 0);
+    let r2 = lists::or_else(state::is_impossible(w), 2, r20);
+    lists::or_else(!check::is_fit(w.system, w.mode, long), 1, r2)
+}
+
+// The CRC of the area into the last two words, if the flag is 01h.
+fn seal(s: System, flag: u8, line: &mut [u16])
+    requires { ⌜ (s .payload + 61 ≤ s .length) × (2 ≤ s .payload) × (s .length ≡ length (now line)) ⌝ }
+    ensures { λ _. ⌜ now (line .exit) ≡ sealed s flag (now (line .entry)) ⌝ }
+{
+    if flag == 1 {
+        let a = s.length - s.payload;
+        let e = s.length - 2;
+        let c = words::crc::crc_of(262143, &line[a..e]);
+        line[e] = words::crc::crc_low(c);
+        line[e + 1] = words::crc::crc_high(c);
+    }
+}
+
+// Closes the line.
+pub fn close_line(w: Writer, line: &mut [u16]) -> Reply
+    ensures { λ r. ⌜ left (r .answer) (r .state) (now (line .exit)) ≡ closing w (now (line .entry)) ⌝ }
+{
+    let fault = close_fault(w, line.len());
+    if fault != 0 {
+        return Reply {
+            answer: Answer::Refused(fault),
+            state: w,
+        };
+    }
+    let s = systems::system_of(w.system);
+    let settings = w.settings;
+    let last = w.last;
+    let rest = w.rest;
+    seal(s, settings.flag, line);
+    let state = Writer {
+        system: w.system,
+        mode: w.mode,
+        last: last,
+        settings: settings,
+        place: Place::Shut,
+        rest: rest,
+    };
+    Reply {
+        answer: Answer::Done,
+        state: state,
+    }
+}

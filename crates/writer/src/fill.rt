@@ -1,0 +1,110 @@
+// Lent parts filled with words. Each is lent exactly the part that it fills, so that no promise has an offset.
+ghost use mathlib.Core.Path.{_≡_};
+ghost use mathlib.Core.List.{map};
+ghost use Prim.Native.Nat.{_+_, _-_, _≤_, min};
+ghost use lib.ListN.{length, take, drop, replicate};
+ghost use Rattle.words.specs.Forms.{byteWord, dataWord};
+ghost use Rattle.words.specs.Modes.{wordOf};
+ghost use Rattle.line.specs.Layout.{gapWord, gapWords};
+
+// a - b, or 0.
+pub(crate) fn less(a: usize, b: usize) -> usize
+    ensures { λ r. ⌜ r ≡ a - b ⌝ }
+{
+    if b < a { a - b } else { 0 }
+}
+
+// The smaller.
+pub(crate) fn at_most(a: usize, b: usize) -> usize
+    ensures { λ r. ⌜ r ≡ min a b ⌝ }
+{
+    if a < b { a } else { b }
+}
+
+// The words of s.
+pub(crate) fn copy_in(s: &[u16], out: &mut [u16])
+    requires { ⌜ length (now out) ≡ length (now s) ⌝ }
+    ensures { λ _. ⌜ now (out .exit) ≡ now (s .entry) ⌝ }
+{
+    let mut i = 0;
+    while i < s.len() {
+        out[i] = s[i];
+        i += 1;
+    }
+}
+
+// The words of s from word j, as many as there is room for.
+pub(crate) fn copy_from(s: &[u16], j: usize, out: &mut [u16])
+    requires { ⌜ j + length (now out) ≤ length (now s) ⌝ }
+    ensures { λ _. ⌜ now (out .exit) ≡ take (length (now (out .entry))) (drop j (now (s .entry))) ⌝ }
+{
+    let e = j + out.len();
+    copy_in(&s[j..e], out);
+}
+
+// Filler 200h.
+pub(crate) fn put_filler(out: &mut [u16])
+    ensures { λ _. ⌜ now (out .exit) ≡ replicate (length (now (out .entry))) 0x200 ⌝ }
+{
+    let mut i = 0;
+    while i < out.len() {
+        out[i] = 0x200;
+        i += 1;
+    }
+}
+
+// The filler of the gap: by the line's own index, the first word's being index.
+pub(crate) fn put_gap(index: usize, out: &mut [u16])
+    requires { ⌜ index ≤ 65535 ⌝ }
+    ensures { λ _. ⌜ now (out .exit) ≡ gapWords index (length (now (out .entry))) ⌝ }
+{
+    let mut i = 0;
+    while i < out.len() {
+        out[i] = gap_word(index % 2, i);
+        i += 1;
+    }
+}
+
+// The filler at place i of a gap whose first index is even (0) or odd (1).
+fn gap_word(odd: usize, i: usize) -> u16
+    requires { ⌜ odd ≤ 1 ⌝ }
+    ensures { λ r. ⌜ r ≡ gapWord (odd + i) ⌝ }
+{
+    if (odd + i % 2) % 2 == 0 { 0x200 } else { 0x040 }
+}
+
+// The values in byte form.
+fn put_bytes(values: &[u16], out: &mut [u16])
+    requires { ⌜ length (now out) ≡ length (now values) ⌝ }
+    ensures { λ _. ⌜ now (out .exit) ≡ map byteWord (now (values .entry)) ⌝ }
+{
+    let mut i = 0;
+    while i < values.len() {
+        out[i] = words::forms::byte_word(values[i]);
+        i += 1;
+    }
+}
+
+// The values in data form.
+fn put_nines(values: &[u16], out: &mut [u16])
+    requires { ⌜ length (now out) ≡ length (now values) ⌝ }
+    ensures { λ _. ⌜ now (out .exit) ≡ map dataWord (now (values .entry)) ⌝ }
+{
+    let mut i = 0;
+    while i < values.len() {
+        out[i] = words::forms::data_word(values[i]);
+        i += 1;
+    }
+}
+
+// The values as the mode writes them: the mode is asked once, and no word is tested.
+pub(crate) fn put_values(mode: u8, values: &[u16], out: &mut [u16])
+    requires { ⌜ length (now out) ≡ length (now values) ⌝ }
+    ensures { λ _. ⌜ now (out .exit) ≡ map (wordOf mode) (now (values .entry)) ⌝ }
+{
+    if mode == 8 {
+        put_bytes(values, out);
+    } else {
+        put_nines(values, out);
+    }
+}

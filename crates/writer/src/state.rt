@@ -1,0 +1,113 @@
+// The writer's state and answers, and which states are impossible.
+use line::course;
+use line::course::Last;
+use line::course::Place;
+use line::settings;
+use line::settings::Settings;
+ghost use mathlib.Core.Path.{_≡_};
+ghost use Rattle.writer.specs.State.{isPart, laidOf, fresh, misshapen, impossible, endIn};
+
+// An unfinished block: its type, n and the words laid (1 to n+6).
+pub enum Rest {
+    Whole,
+    Part { kind: u8, count: u16, laid: u16 },
+}
+
+pub struct Writer {
+    pub system: u8,
+    pub mode: u8,
+    pub last: Last,
+    pub settings: Settings,
+    pub place: Place,
+    pub rest: Rest,
+}
+
+// What opening and closing answer.
+pub enum Answer {
+    Refused(u8),
+    Done,
+}
+
+// What adding answers.
+pub enum Laid {
+    Not(u8),
+    Finished,
+    Unfinished,
+}
+
+// A fresh writer. Any numbers are taken: an unknown system or mode gives 1 later.
+pub fn fresh_writer(system: u8, mode: u8) -> Writer
+    ensures { λ r. ⌜ r ≡ fresh system mode ⌝ }
+{
+    let none = settings::no_settings();
+    Writer {
+        system: system,
+        mode: mode,
+        last: Last::Unknown,
+        settings: none,
+        place: Place::Shut,
+        rest: Rest::Whole,
+    }
+}
+
+// A block is unfinished.
+pub fn is_part(rest: Rest) -> bool
+    ensures { λ r. ⌜ r ≡ isPart rest ⌝ }
+{
+    match rest {
+        Rest::Whole => false,
+        Rest::Part {
+            kind: _,
+            count: _,
+            laid: _,
+        } => true,
+    }
+}
+
+// The words laid of the unfinished block, 0 where there is none.
+pub fn laid_of(rest: Rest) -> usize
+    ensures { λ r. ⌜ r ≡ laidOf rest ⌝ }
+{
+    match rest {
+        Rest::Whole => 0,
+        Rest::Part {
+            kind: _,
+            count: _,
+            laid,
+        } => laid as usize,
+    }
+}
+
+// n above 16,384, or words laid not 1 to n+6.
+fn is_misshapen(rest: Rest) -> bool
+    ensures { λ r. ⌜ r ≡ misshapen rest ⌝ }
+{
+    match rest {
+        Rest::Whole => false,
+        Rest::Part {
+            kind: _,
+            count,
+            laid,
+        } => { (16384 < count) | ((laid < 1) | (count as usize + 6 < laid as usize)) }
+    }
+}
+
+// No writer can have come into this state.
+pub fn is_impossible(w: Writer) -> bool
+    ensures { λ r. ⌜ r ≡ impossible w ⌝ }
+{
+    let last = w.last;
+    let settings = w.settings;
+    let place = w.place;
+    let rest = w.rest;
+    let lines = course::is_impossible(w.system, last, settings, place, is_part(rest));
+    lines | is_misshapen(rest)
+}
+
+// The words of the open line's area in which blocks may stand.
+pub fn end_in(w: Writer) -> usize
+    ensures { λ r. ⌜ r ≡ endIn w ⌝ }
+{
+    let s = line::systems::system_of(w.system);
+    course::blocks_end(s.payload, w.settings.block, w.settings.flag)
+}
