@@ -193,7 +193,7 @@ fn line_heads() {
     }
 }
 
-pub fn all() {
+pub(crate) fn all() {
     lines();
     line_heads();
 }

@@ -48,7 +48,7 @@ fn put_plan(p: Plan) {
 }
 
 // The row of a line with one word changed.
-pub fn row(p: Plan, place: usize, word: u16, mend: u8)
+pub(crate) fn row(p: Plan, place: usize, word: u16, mend: u8)
     requires { ⌜ (p .system < 4) × (p .seed < 4294967296) ⌝ }
 {
     let s = wholes::known(p.system);
@@ -78,7 +78,7 @@ fn fit(system: u8, mode: u8, n: usize)
 }
 
 // What fits a system and a mode, and what nearly does.
-pub fn fits() {
+pub(crate) fn fits() {
     fit(0, 8, 1716);
     fit(0, 9, 1716);
     fit(0, 8, 1715);

@@ -84,7 +84,7 @@ fn lengths(kind: u64) {
     }
 }
 
-pub fn all() {
+pub(crate) fn all() {
     row(0, 1438, 0); // all filler
     row(0, 1918, 0);
     seeds(4, 5); // as long as what the line CRC covers, in the form of a header

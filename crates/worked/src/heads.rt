@@ -21,7 +21,7 @@ fn row(number: u16, code: u8, aai: u8, block: u8, flag: u8, seed: u64)
     rows::end();
 }
 
-pub fn all() {
+pub(crate) fn all() {
     row(1, 1, 0, 0xc1, 0, 1);
     row(2, 1, 0, 0xc1, 1, 2);
     row(3, 1, 1, 0xc1, 0, 3);

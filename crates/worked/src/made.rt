@@ -6,7 +6,7 @@ ghost use Prim.Native.Nat.{_<_};
 ghost use lib.ListN.{length};
 
 // The generator's next number.
-pub fn next(x: u64) -> u64
+pub(crate) fn next(x: u64) -> u64
     requires { ⌜ x < 4294967296 ⌝ }
     ensures { λ r. ⌜ r < 4294967296 ⌝ }
 {
@@ -14,7 +14,7 @@ pub fn next(x: u64) -> u64
 }
 
 // The generator's sixteen upper bits.
-pub fn upper(x: u64) -> u16
+pub(crate) fn upper(x: u64) -> u16
     requires { ⌜ x < 4294967296 ⌝ }
 {
     (x / 65536) as u16
@@ -51,7 +51,7 @@ fn address(seed: u64) -> [u8; 16]
 }
 
 // Settings: the destination from the seed, then the source from where the destination ended; reserved 0.
-pub fn settings_of(code: u8, aai: u8, block: u8, flag: u8, seed: u64) -> Settings
+pub(crate) fn settings_of(code: u8, aai: u8, block: u8, flag: u8, seed: u64) -> Settings
     requires { ⌜ seed < 4294967296 ⌝ }
 {
     let destination = address(seed);

@@ -22,7 +22,7 @@ pub struct Plan {
 }
 
 // L, P, N and the code of a system that there is.
-pub fn known(system: u8) -> System
+pub(crate) fn known(system: u8) -> System
     requires { ⌜ system < 4 ⌝ }
     ensures { λ r. ⌜ (r .payload + 61 ≤ r .length) × ((r .length ≤ 2304) × (2 ≤ r .payload)) ⌝ }
 {
@@ -155,7 +155,7 @@ fn mended(line: [u16; 2304], p: Plan, mend: u8) -> [u16; 2304]
 }
 
 // The line of a plan, one word changed, and mended.
-pub fn line_of(p: Plan, place: usize, word: u16, mend: u8) -> [u16; 2304]
+pub(crate) fn line_of(p: Plan, place: usize, word: u16, mend: u8) -> [u16; 2304]
     requires { ⌜ (p .system < 4) × (p .seed < 4294967296) ⌝ }
     ensures { λ r. ⌜ length r ≡ 2304 ⌝ }
 {
