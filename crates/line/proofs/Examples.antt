@@ -1,12 +1,12 @@
 -- Each answer of the line check is reached: one small example a number, and the slips of 01, in one checked list with one claim.
 -- Assumes nothing.
 use mathlib.Core.Bool.{Bool, true, false, _&&_}
-use mathlib.Core.List.{List, [], _∷_, _++_, map}
+use mathlib.Core.List.{List, [], _∷_, _++_}
 use Prim.Native.Nat.{ℕ, suc}
 use lib.Dec.{T, eqb}
 use lib.ListN.{take, drop, replicate}
 use Rattle.lists.specs.Tests.{pick, lowest}
-use Rattle.lists.specs.Lists.{part, same, each}
+use Rattle.lists.specs.Lists.{part}
 use Rattle.words.specs.Forms.{byteWord, dataWord, isByte, isData}
 use Rattle.words.specs.Modes.{isMode}
 use Rattle.words.specs.Checksum.{checksum}
@@ -19,7 +19,7 @@ use Rattle.line.specs.Fixed.{table, fixedOf, placesOf, sizeOf, fillsAll,
 use Rattle.line.specs.Settings.{settingsFaults}
 use Rattle.line.specs.Header.{numberWords, settingsBytes, settingsWords, summedWords, headerWords}
 use Rattle.line.specs.Layout.{areaLength, endWords, lineWords, areaOf, endOf}
-use Rattle.line.specs.Check.{legal, numberOf, settingsOf, timed, formed, crcStands, numbered, headFaults, areaFaults, payloadFaults, faults, fitsLength, fits, lineFault}
+use Rattle.line.specs.Check.{legal, numberOf, settingsOf, timed, formed, crcStands, numbered, headFaults, areaFaults, payloadFaults, faults, fitsLength, lineFault}
 
 -- a system with a short line: L 75, P 10, N 525, code 1
 short : System

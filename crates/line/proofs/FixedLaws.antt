@@ -1,12 +1,12 @@
 -- The table of fixed blocks: what is not listed, which kinds fill all P words, and that the places of a kind fit into the payload.
 -- Assumes nothing.
-use mathlib.Core.Path.{_≡_, refl, sym, ap, ap₂, _∙_, subst}
+use mathlib.Core.Path.{_≡_, refl, sym, ap, _∙_, subst}
 use mathlib.Core.Bool.{Bool, true, false, _&&_, _||_, not}
 use mathlib.Core.List.{List, [], _∷_}
 use Prim.Native.Nat.{ℕ, zero, suc, _-_, _*_, _%_, _^_, _<_, _≤_}
 use native.Mathlib.Omega.{arith}
 use native.Mathlib.Nat.{mod-lt, mod-mod, lt-of-le-of-lt, le-of-lt, mul-le-mul-left, mul-lt-mul-of-pos-right}
-use lib.Dec.{T, eqb, leb, ltb, lit<, leb→le}
+use lib.Dec.{T, eqb, leb, lit<}
 use borrow.Author.Tests.{ne-eqb, ltb-true, leb-true}
 use Rattle.lists.specs.Tests.{pick}
 use Rattle.lists.proofs.Tests.{all, below, agree, agree→eq, pick-false}
@@ -104,3 +104,29 @@ places-in-area system known block flag fixed pass =
     let fit : T (fitting p (placesOf p block) (sizeOf block)) = payloads system known (λ p. T (fitting p (placesOf p block) (sizeOf block))) (fits-270 block) (fits-360 block) in
     area-by p q (eqb flag 1) (eqb q p) (leb q p) (leb q (p - 2)) refl refl fit
     (refused-not (isVariable block) (leb 128 block) (eqb (placesOf p block) 0) (eqb flag 1 && eqb q p) fixed pass)
+
+-- a kind that has places has a size
+abbrev sized : Fixed → Bool
+sized x = not (eqb (x .size) 0) || (eqb (x .at270) 0 && eqb (x .at360) 0)
+
+all-sized : (block : ℕ) → T (sized (fixedOf block))
+unfolding fixedOf table pick
+all-sized block = below 64 (λ k. sized (find k table)) tt (block % 64) (mod-lt block (lit< tt))
+
+sized-by : (p z a b : Bool) → T (not z || (a && b)) → pick p a b ≡ false → z ≡ false
+unfolding pick
+sized-by p false a b t e = refl
+sized-by true true true b t e = absurd (subst T e tt)
+sized-by true true false b t e = absurd t
+sized-by false true true true t e = absurd (subst T e tt)
+sized-by false true true false t e = absurd t
+sized-by false true false b t e = absurd t
+
+pick-eqb : (c : Bool) (a b : ℕ) → eqb (pick c a b) 0 ≡ pick c (eqb a 0) (eqb b 0)
+unfolding pick
+pick-eqb true a b = refl
+pick-eqb false a b = refl
+
+pub size-some : (p block : ℕ) → eqb (placesOf p block) 0 ≡ false → eqb (sizeOf block) 0 ≡ false
+unfolding placesOf sizeOf
+size-some p block e = sized-by (eqb p 1440) _ _ _ (all-sized block) (sym (pick-eqb (eqb p 1440) (fixedOf block .at270) (fixedOf block .at360)) ∙ e)

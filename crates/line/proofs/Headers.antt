@@ -7,12 +7,12 @@ use mathlib.Core.List.{List, [], _∷_, _++_, map, append-assoc}
 use Prim.Native.Nat.{ℕ, _+_, _*_, _/_, _%_, _<_, _≤_}
 use native.Mathlib.Nat.{mod-eq-of-lt, mod-lt, mod-mod}
 use native.Mathlib.Omega.{arith}
-use lib.Dec.{eqb, ltb, leb, lit<, lit≤}
+use lib.Dec.{eqb, leb, lit<, lit≤}
 use lib.Pow.{mod-mod-pow}
 use lib.ListN.{length, getD, take, drop, length-append, length-map, length-drop, take-append-drop, List·getD-map}
 use lib.Seq.{take-at, drop-at, drop-cons, getD-at, getD-drop, take-all, drop-drop}
 use borrow.Author.Tests.{eqb-true, eq-eqb, ltb-true, lt-ltb, le-leb, not-false}
-use Rattle.lists.specs.Lists.{part, same, each}
+use Rattle.lists.specs.Lists.{part, each}
 use Rattle.lists.proofs.Tests.{both-true, Clear}
 use Rattle.lists.proofs.Lists.{part-add, length-part, getD-part, part-two, part-part, map-part, append-inj, same-eq, eq-same, each-append, map-back, each-map}
 use Rattle.words.specs.Forms.{byteWord, isByte, isData, bit}

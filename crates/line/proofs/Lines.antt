@@ -3,24 +3,22 @@
 -- Assumes nothing.
 use mathlib.Core.Path.{_≡_, refl, sym, ap, ap₂, _∙_, subst}
 use mathlib.Core.Bool.{Bool, true, false, _&&_, not}
-use mathlib.Core.List.{List, [], _∷_, _++_}
-use Prim.Native.Nat.{ℕ, zero, suc, _+_, _-_, _<_, _≤_}
+use mathlib.Core.List.{List, [], _++_}
+use Prim.Native.Nat.{ℕ, zero, suc, _+_, _-_, _≤_}
 use native.Mathlib.Nat.{add-zero}
 use native.Mathlib.Omega.{arith}
-use lib.Dec.{eqb, ltb}
+use lib.Dec.{eqb}
 use lib.ListN.{length, take, drop, length-append}
 use lib.Seq.{drop-at}
 use borrow.Author.Tests.{eqb-true, eq-eqb, ltb-false, not-false}
 use Rattle.lists.specs.Tests.{pick, lowest}
 use Rattle.lists.specs.Lists.{part, each}
-use Rattle.lists.proofs.Tests.{both-true, pick-true, pick-false, picked, Clear, lowest-clear, clear-lowest, clear-append, clear-split}
+use Rattle.lists.proofs.Tests.{pick-true, picked, Clear, lowest-clear, clear-lowest, clear-append, clear-split}
 use Rattle.lists.proofs.Lists.{part-front, part-behind, drop-behind, eq-same}
 use Rattle.words.specs.Forms.{isData}
 use Rattle.words.specs.Modes.{isMode}
 use Rattle.words.specs.Crc.{crcWords}
 use Rattle.line.specs.declared.settings.Settings.{Settings}
-use Rattle.line.specs.declared.systems.System.{System}
-use Rattle.line.specs.declared.check.Checked.{Checked}
 use Rattle.line.specs.Systems.{systemOf, isSystem}
 use Rattle.line.specs.Timing.{timingWords}
 use Rattle.line.specs.Fixed.{isVariable}

@@ -1,11 +1,11 @@
 -- The 53 words that the code lays, one part after another, are the header words.
 -- Assumes nothing.
-use mathlib.Core.Path.{_≡_, refl, sym, ap, ap₂, _∙_}
+use mathlib.Core.Path.{_≡_, refl, sym, ap, _∙_}
 use mathlib.Core.List.{List, [], _∷_, _++_, map, map-append, append-assoc}
 use Prim.Native.Nat.{ℕ, _+_, _*_, _/_, _%_, _≤_}
 use native.Mathlib.Omega.{arith}
 use lib.Dec.{lit≤}
-use lib.ListN.{length, take, drop, length-append, length-map}
+use lib.ListN.{length, take, length-append, length-map}
 use lib.Seq.{take-all}
 use Rattle.words.specs.Forms.{byteWord}
 use Rattle.words.specs.Checksum.{checksum}

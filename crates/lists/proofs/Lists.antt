@@ -1,14 +1,14 @@
 -- Laws of parts of a list, of lists that are equal, and of a test of each element.
 -- Assumes nothing.
 use mathlib.Core.Path.{_≡_, refl, sym, ap, ap₂, _∙_, subst}
-use mathlib.Core.Bool.{Bool, true, false, _&&_}
+use mathlib.Core.Bool.{Bool, true, _&&_}
 use mathlib.Core.List.{List, [], _∷_, _++_, map}
 use Prim.Native.Nat.{ℕ, zero, suc, _+_, _-_, _<_, _≤_}
 use native.Mathlib.Nat.{zero-add, suc-add, add-suc, add-zero, le-of-suc-le-suc, not-suc-le-zero}
 use native.Mathlib.Omega.{arith}
 use lib.Dec.{T, eqb}
-use lib.ListN.{length, getD, take, drop, replicate, length-take, length-drop, length-append, length-map, take-append-drop}
-use lib.Seq.{take-add, take-take, drop-drop, take-at, drop-at, drop-cons, getD-take, getD-drop, take-all}
+use lib.ListN.{length, getD, take, drop, length-take, length-drop}
+use lib.Seq.{take-add, take-take, drop-drop, take-at, drop-at, drop-cons, getD-take, getD-drop}
 use borrow.Author.Tests.{eqb-true, eq-eqb}
 use Rattle.lists.specs.Lists.{part, same, each}
 use Rattle.lists.proofs.Tests.{both-true}

@@ -1,17 +1,14 @@
 -- Laws of the classes: what each class says of a word, and what the word of a value is.
 -- Assumes nothing.
-use mathlib.Core.Path.{_≡_, refl, sym, ap, ap₂, _∙_, subst}
-use mathlib.Core.Bool.{Bool, true, false}
-use Prim.Native.Nat.{ℕ, _<_}
+use mathlib.Core.Path.{_≡_, refl, sym, ap, _∙_}
+use mathlib.Core.Bool.{true, false}
+use Prim.Native.Nat.{ℕ}
 use lib.Dec.{eqb}
 use Rattle.lists.specs.Tests.{pick}
-use Rattle.lists.proofs.Tests.{pick-true, pick-false}
-use Rattle.words.specs.Forms.{isByte, isData, byteWord, dataWord}
-use Rattle.words.specs.Modes.{values, wordOf}
+use Rattle.words.specs.Forms.{isByte, isData}
 use Rattle.words.specs.Class.{classOf, classNumber, separator, endCode}
 use Rattle.words.specs.declared.class.Class.{Class}
 use Rattle.words.specs.declared.class.Class.the-variants.{Byte, Other, Separator, Ending, Illegal}
-use Rattle.words.proofs.FormLaws.{byte-in}
 
 -- no two classes have one number
 named : ℕ → Class

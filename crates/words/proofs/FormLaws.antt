@@ -1,20 +1,20 @@
 -- Laws of the forms: what the code computes is what the definitions say, and what is written reads back, each by a test at all words.
 -- Assumes nothing.
-use mathlib.Core.Path.{_≡_, refl, sym, ap, ap₂, _∙_, subst}
+use mathlib.Core.Path.{_≡_, refl, sym, ap, ap₂, _∙_}
 use mathlib.Core.Bool.{Bool, true, false, _&&_}
 use mathlib.Core.Logic.{⊎-elim}
-use Prim.Native.Nat.{ℕ, zero, suc, _+_, _-_, _*_, _/_, _%_, _^_, _<_, _≤_}
-use native.Mathlib.Nat.{mod-lt, mod-mod, mod-eq-of-lt}
+use Prim.Native.Nat.{ℕ, zero, suc, _+_, _-_, _*_, _/_, _%_, _^_, _<_}
+use native.Mathlib.Nat.{mod-mod}
 use native.Mathlib.Numerals.{add-one}
 use native.Mathlib.Omega.{arith}
-use lib.Dec.{T, eqb, leb, ltb, eqb→eq, lit<}
+use lib.Dec.{T, eqb, leb, ltb, eqb→eq}
 use lib.Pow.{mod-mod-pow, field}
 use lib.Bits.{bitXor}
-use borrow.Author.Tests.{le-ltb, le-leb, lt-ltb, ne-eqb, eq-eqb, ltb-true, leb-true, eqb-true}
+use borrow.Author.Tests.{le-ltb, le-leb, ne-eqb, ltb-true, eqb-true}
 use Rattle.lists.specs.Tests.{pick}
-use Rattle.lists.proofs.Tests.{agree, agree→eq, implies, implied, below, both-true, lt-or-le, pick-true, pick-false}
+use Rattle.lists.proofs.Tests.{agree, agree→eq, implies, implied, below, both-true, lt-or-le}
 use Rattle.words.specs.Forms.{bit, xorOf, parity, dataWord, byteWord, isData, isByte}
-use Rattle.words.specs.Modes.{isMode, values, wordOf, valueOf}
+use Rattle.words.specs.Modes.{values, wordOf, valueOf}
 
 -- ---- the exclusive or of eight bits
 xor-low : (n v : ℕ) → xorOf n (v % 2 ^ n) ≡ xorOf n v

@@ -4,13 +4,13 @@
 use mathlib.Core.Path.{_≡_, refl, sym, ap, ap₂, _∙_, subst}
 use mathlib.Core.List.{List, [], _∷_, _++_}
 use Prim.Native.Nat.{ℕ, zero, suc, _+_, _*_, _/_, _%_, _^_, _<_}
-use native.Mathlib.Nat.{mul-one, mul-comm, zero-add, suc-add, div-one, mod-lt, mod-mod, div-eq-of-lt, mod-eq-of-lt}
+use native.Mathlib.Nat.{mul-one, mul-comm, zero-add, suc-add, div-one, mod-lt, mod-mod, div-eq-of-lt}
 use native.Mathlib.Numerals.{add-one, one-add}
 use native.Mathlib.Omega.{arith}
-use lib.Dec.{lit<, T, eqb}
+use lib.Dec.{lit<, T}
 use lib.Arith.{lt-one, digits-lt, digits-div, digits-mod}
 use lib.Pow.{pow-pos, pow-add, split, shr-lt, shr-shr, field, mod-mod-pow}
-use lib.Bits.{bitXor, xor-lt, xor-comm, xor-zero-r, xor-shr, xor-mod, xor-shifted, shifted-half, shifted-even}
+use lib.Bits.{bitXor, xor-comm, xor-zero-r, xor-shr, xor-mod, xor-shifted, shifted-half, shifted-even}
 use lib.ListN.{length, replicate, getD, drop, drop-of-length-le}
 use Rattle.lists.proofs.Loops.{next-drop}
 use Rattle.words.specs.Shifts.{fed}

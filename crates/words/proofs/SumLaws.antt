@@ -1,7 +1,7 @@
 -- The checksum goes on: a loop's turn.
 -- Assumes nothing.
 use mathlib.Core.Path.{_≡_, sym, ap, _∙_}
-use mathlib.Core.List.{List, _∷_}
+use mathlib.Core.List.{List}
 use Prim.Native.Nat.{ℕ, _+_, _%_, _<_}
 use native.Mathlib.Nat.{mod-add-mod, add-assoc}
 use lib.ListN.{length, drop, getD}

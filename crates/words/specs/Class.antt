@@ -1,7 +1,6 @@
 -- What a word of the payload is.
 -- Assumes nothing.
 use Prim.Native.Nat.{ℕ}
-use mathlib.Core.Bool.{Bool}
 use lib.Dec.{eqb}
 use Rattle.lists.specs.Tests.{pick}
 use Rattle.words.specs.Forms.{isByte, isData}

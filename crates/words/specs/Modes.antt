@@ -4,7 +4,7 @@ use Prim.Native.Nat.{ℕ, _%_}
 use mathlib.Core.Bool.{Bool, _||_}
 use lib.Dec.{eqb}
 use Rattle.lists.specs.Tests.{pick}
-use Rattle.words.specs.Forms.{isData, isByte, dataWord, byteWord}
+use Rattle.words.specs.Forms.{dataWord, byteWord}
 
 -- the modes that there are
 unfoldable pub isMode : ℕ → Bool

@@ -1,13 +1,13 @@
 -- A line in two parts, all before the payload and the payload: words pasted into the payload, and the line sealed.
 -- Assumes nothing.
-use mathlib.Core.Path.{_≡_, refl, sym, ap, ap₂, _∙_, subst}
+use mathlib.Core.Path.{_≡_, refl, sym, ap, ap₂, _∙_}
 use mathlib.Core.Bool.{Bool, true, false}
-use mathlib.Core.List.{List, [], _∷_, _++_, append-assoc, append-nil}
+use mathlib.Core.List.{List, [], _∷_, _++_, append-assoc}
 use Prim.Native.Nat.{ℕ, zero, suc, _+_, _-_, _≤_}
 use native.Mathlib.Nat.{sub-zero, zero-sub, suc-sub-suc}
 use native.Mathlib.Omega.{arith}
-use lib.ListN.{length, take, drop, replicate, length-append, length-replicate, take-append-drop}
-use lib.Seq.{paste, take-at, drop-at, take-append-add, length-take-le, take-all}
+use lib.ListN.{length, take, drop, replicate, length-append}
+use lib.Seq.{paste, take-at, drop-at, take-append-add}
 use Rattle.lists.specs.Lists.{part}
 use Rattle.lists.proofs.Lists.{drop-behind}
 use Rattle.line.specs.declared.systems.System.{System}

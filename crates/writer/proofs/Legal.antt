@@ -1,16 +1,16 @@
 -- Every word that an accepted addition lays is legal in its line.
 -- Assumes nothing.
-use mathlib.Core.Path.{_≡_, refl, sym, ap, ap₂, _∙_, subst}
-use mathlib.Core.Bool.{Bool, true, false, _&&_, _||_, not}
-use mathlib.Core.List.{List, [], _∷_, _++_, map}
-use Prim.Native.Nat.{ℕ, zero, suc, _+_, _-_, _/_, _%_, _<_}
+use mathlib.Core.Path.{_≡_, refl, sym, ap, ap₂, _∙_}
+use mathlib.Core.Bool.{Bool, true, false, _&&_}
+use mathlib.Core.List.{List, [], _∷_, map}
+use Prim.Native.Nat.{ℕ, zero, suc, _-_, _/_, _%_, _<_}
 use native.Mathlib.Omega.{arith}
 use lib.Dec.{eqb, ltb, T}
 use lib.ListN.{length, take, drop, replicate}
 use borrow.Author.Tests.{ltb-true}
 use Rattle.lists.specs.Tests.{pick}
 use Rattle.lists.specs.Lists.{each}
-use Rattle.lists.proofs.Tests.{both-true, pick-true, pick-false}
+use Rattle.lists.proofs.Tests.{or-left, or-right, both-true}
 use Rattle.lists.proofs.Lists.{each-append, each-map}
 use Rattle.words.specs.Forms.{isByte, isData, byteWord, dataWord}
 use Rattle.words.specs.Modes.{values, wordOf}
@@ -37,14 +37,6 @@ each-filler f zero x e = refl
 each-filler f (suc n) x e = ap₂ _&&_ e (each-filler f n x e)
 
 -- ---- words of each kind
-or-left : (a b : Bool) → a ≡ true → (a || b) ≡ true
-or-left true b e = refl
-or-left false b e = absurd (subst T (sym e) tt)
-
-or-right : (a b : Bool) → b ≡ true → (a || b) ≡ true
-or-right true b e = refl
-or-right false b e = e
-
 form-by : (m x y : Bool) → x ≡ true → y ≡ true → pick m x y ≡ true
 unfolding pick
 form-by true x y b d = b

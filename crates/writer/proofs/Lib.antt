@@ -8,3 +8,7 @@ pub mod Keeps
 pub mod Framing
 pub mod Legal
 pub mod Writing
+pub mod Stays
+pub mod Pieces
+pub mod AnswerLaws
+pub mod Samples

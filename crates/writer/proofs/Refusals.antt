@@ -1,6 +1,6 @@
 -- What a fault number 0 says, and what a possible state has.
 -- Assumes nothing.
-use mathlib.Core.Path.{_≡_, refl, sym, ap, _∙_, subst}
+use mathlib.Core.Path.{_≡_, refl, sym, ap, ap₂, _∙_, subst}
 use mathlib.Core.Bool.{Bool, true, false, _&&_, _||_, not}
 use mathlib.Core.List.{List}
 use Prim.Native.Nat.{ℕ, zero, suc, _+_, _-_, _*_, _≤_, _<_}
@@ -9,7 +9,7 @@ use lib.Dec.{T, ltb, leb, eqb, lit≤}
 use lib.ListN.{length}
 use borrow.Author.Tests.{ltb-false, leb-true, leb-false, eqb-true, eqb-false, not-false}
 use Rattle.lists.specs.Tests.{pick}
-use Rattle.lists.proofs.Tests.{both-true, lowest-clear}
+use Rattle.lists.proofs.Tests.{or-right, both-true, lowest-clear}
 use Rattle.words.specs.Modes.{isMode}
 use Rattle.line.specs.declared.settings.Settings.{Settings}
 use Rattle.line.specs.declared.course.Last.{Last}
@@ -57,6 +57,9 @@ pub or-false : (a b : Bool) → (a || b) ≡ false → (a ≡ false) × (b ≡ f
 or-false true b e = absurd (true-false e)
 or-false false b e = (refl, e)
 
+pub false-or : {a b : Bool} → a ≡ false → b ≡ false → (a || b) ≡ false
+false-or p q = ap₂ _||_ p q
+
 -- ---- 1, 18, 19
 fit-of : (w : Writer) (line : List ℕ) → not (fitsLength (w .system) (w .mode) (length line)) ≡ false → (isSystem (w .system) ≡ true) × Fit (w .system) (w .mode) line
 unfolding fitsLength
@@ -75,26 +78,28 @@ room-of-place : (end : ℕ) (place : Place) → isAt place ≡ true → isFull e
 room-of-place end Shut o e = absurd (true-false (sym o))
 room-of-place end (At p) o e = leb-false end p e
 
--- ---- a possible state with an open line
-pub record Possible (w : Writer) : Type 0 where
-  pub settings : settingsFault (w .system) (w .settings) ≡ 0
+-- ---- what a possible state holds with a line or a block begun
+pub record Begun (w : Writer) : Type 0 where
+  pub number : ℕ
+  pub last : w .last ≡ Number number
+  pub range : not (leb 1 number && leb number (systemOf (w .system) .lines)) ≡ false
+  pub clean : not (eqb (settingsFault (w .system) (w .settings)) 0) ≡ false
   pub placed : misplaced (systemOf (w .system) .payload) (w .settings .block) (w .settings .flag) (w .place) ≡ false
-  pub variable : (isPart (w .rest) && not (isVariable (w .settings .block))) ≡ false
+  pub varied : (isPart (w .rest) && not (isVariable (w .settings .block))) ≡ false
   pub shaped : misshapen (w .rest) ≡ false
 
-pub possible : (w : Writer) → impossible w ≡ false → isAt (w .place) ≡ true → Possible w
+pub begun : (w : Writer) → impossible w ≡ false → (isPart (w .rest) || isAt (w .place)) ≡ true → Begun w
 unfolding impossible
-possible w e o =
-    let both = or-false (impossibleAfter (w .system) (w .last) (w .settings) (w .place) (isPart (w .rest))) (misshapen (w .rest)) e in
-    go (w .last) (both .0) (both .1)
+begun w e o = go (w .last) refl (or-false _ (misshapen (w .rest)) e)
   where
-    go : (l : Last) → impossibleAfter (w .system) l (w .settings) (w .place) (isPart (w .rest)) ≡ false → misshapen (w .rest) ≡ false → Possible w
-    go Unknown h m = absurd (true-false (sym o ∙ or-false (isPart (w .rest)) (isAt (w .place)) h .1))
-    go (Number x) h m =
-        let a = or-false (not (leb 1 x && leb x (systemOf (w .system) .lines))) _ h in
-        let b = or-false (not (eqb (settingsFault (w .system) (w .settings)) 0)) _ (a .1) in
-        let d = or-false (misplaced (systemOf (w .system) .payload) (w .settings .block) (w .settings .flag) (w .place)) _ (b .1) in
-        record { settings = eqb-true _ 0 (not-false _ (b .0)); placed = d .0; variable = d .1; shaped = m }
+    go : (l : Last) → w .last ≡ l
+        → (impossibleAfter (w .system) l (w .settings) (w .place) (isPart (w .rest)) ≡ false) × (misshapen (w .rest) ≡ false) → Begun w
+    go Unknown is h = absurd (subst T (sym o ∙ h .0) tt)
+    go (Number x) is h =
+        let a = or-false _ _ (h .0) in
+        let b = or-false _ _ (a .1) in
+        let c = or-false _ _ (b .1) in
+        record { number = x; last = is; range = a .0; clean = b .0; placed = c .0; varied = c .1; shaped = h .1 }
 
 block-passes : (system : ℕ) (t : Settings) → settingsFault system t ≡ 0 → blockRefused (systemOf system .payload) (t .block) (t .flag) ≡ false
 unfolding settingsFault settingsFaults
@@ -220,24 +225,24 @@ can-add w line kind vs e =
     let c19 = passed 18 (isFull (endIn w) (w .place)) _ (c18 .1) in
     let c20 = passed 19 (not (isAt (w .place)) || isOther (w .rest) kind n) 0 (c19 .1) in
     let o = or-false (not (isAt (w .place))) _ (c20 .0) in
-    let begun = not-false (isAt (w .place)) (o .0) in
+    let at = not-false (isAt (w .place)) (o .0) in
     let f = fit-of w line (c1 .0) in
     let s = shape-of (w .place) block kind n (c18 .0) in
-    let h = possible w (c2 .0) begun in
+    let h = begun w (c2 .0) (or-right (isPart (w .rest)) (isAt (w .place)) at) in
     let area = area-most (systemOf (w .system) .payload) (w .settings .flag) in
-    let end = end-in-area (w .system) (w .settings) (f .0) (h .settings) in
+    let end = end-in-area (w .system) (w .settings) (f .0) (eqb-true _ 0 (not-false _ (h .clean))) in
     record {
       fit = f .1;
       state = c2 .0;
-      begun = begun;
+      begun = at;
       values = not-false _ (c17 .0);
       shape = c18 .0;
       number = s .0;
       byte = s .1;
-      room = room-of-place (endIn w) (w .place) begun (c19 .0);
+      room = room-of-place (endIn w) (w .place) at (c19 .0);
       end = omega (arith, area, end);
       same = o .1;
-      left = laid-below block (w .rest) kind n (h .variable) (h .shaped) (o .1);
+      left = laid-below block (w .rest) kind n (h .varied) (h .shaped) (o .1);
     }
 
 -- ---- what an accepted closing finds

@@ -2,41 +2,34 @@
 -- and the line check finds no fault in it.
 -- Assumes nothing.
 use mathlib.Core.Path.{_≡_, refl, sym, ap, ap₂, _∙_, subst}
-use mathlib.Core.Bool.{Bool, true, false, _&&_, _||_, not}
-use mathlib.Core.List.{List, [], _∷_, _++_, append-assoc, append-nil}
+use mathlib.Core.Bool.{Bool, true}
+use mathlib.Core.List.{List, [], _++_, append-assoc, append-nil}
 use mathlib.Core.Logic.{_⊎_, inl, inr, ⊎-elim}
-use Prim.Native.Nat.{ℕ, zero, suc, _+_, _-_, _≤_, _<_, min}
+use Prim.Native.Nat.{ℕ, zero, suc, _+_, _-_, _≤_}
 use native.Mathlib.Nat.{sub-zero}
 use native.Mathlib.Omega.{arith}
-use lib.Dec.{T, eqb, leb}
+use lib.Dec.{T}
 use lib.ListN.{length, take, drop, replicate, length-append, length-replicate}
 use lib.Seq.{paste, length-take-le, take-at, drop-at}
-use borrow.Author.Tests.{eqb-true, eqb-false, leb-false}
-use Rattle.lists.specs.Tests.{pick}
 use Rattle.lists.specs.Lists.{each}
 use Rattle.lists.proofs.Lists.{each-append}
-use Rattle.line.specs.declared.systems.System.{System}
 use Rattle.line.specs.declared.settings.Settings.{Settings}
-use Rattle.line.specs.declared.course.Last.{Last}
-use Rattle.line.specs.declared.course.Last.the-variants.{Number}
-use Rattle.line.specs.declared.course.Place.{Place}
-use Rattle.line.specs.declared.course.Place.the-variants.{Shut, At}
+use Rattle.line.specs.declared.course.Place.the-variants.{At}
 use Rattle.line.specs.Systems.{systemOf, isSystem}
 use Rattle.line.specs.Fixed.{isVariable}
 use Rattle.line.specs.Settings.{Held, settingsFault}
 use Rattle.line.specs.Layout.{payloadAt, areaLength, framed, lineWords}
 use Rattle.line.specs.Check.{legal}
-use Rattle.line.specs.Course.{isAt, placeOf, blocksEnd}
+use Rattle.line.specs.Course.{placeOf, blocksEnd}
 use Rattle.line.proofs.SystemLaws.{Sound}
 use Rattle.line.proofs.Lines.{Buildable, Accepted, accepted}
 use Rattle.writer.specs.declared.state.Writer.{Writer}
-use Rattle.writer.specs.declared.state.Answer.the-variants.{Refused, Done}
-use Rattle.writer.specs.State.{laidOf, endIn, moved}
+use Rattle.writer.specs.State.{laidOf, endIn}
 use Rattle.writer.specs.Answers.{Left, Added}
 use Rattle.writer.specs.Block.{wordsIn}
-use Rattle.writer.specs.Opening.{openFault, openState, openWords, opening}
-use Rattle.writer.specs.Adding.{addFault, todo, room, lay, adding, isFull}
-use Rattle.writer.specs.Closing.{closeFault, sealed, closing}
+use Rattle.writer.specs.Opening.{openWords, opening}
+use Rattle.writer.specs.Adding.{addFault, todo, room, adding}
+use Rattle.writer.specs.Closing.{sealed, closing}
 use Rattle.writer.specs.Course.{pieceOf, joined, Filling, filled, adds, tries-opening, tries-closing, Written, areaFrom}
 use Rattle.writer.proofs.Keeps.{open-clear, open-leaves, open-keeps, close-clear, close-leaves, close-keeps, add-leaves, add-stays}
 use Rattle.writer.proofs.Framing.{front, front-length, framed-front, pasted, seals}
@@ -60,7 +53,7 @@ either (suc n) = inr (λ e. omega arith)
 
 -- ---- one addition
 -- the piece of words pasted at their place
-piece-law : (l s : List ℕ) (a p k : ℕ) → a ≤ length l → k ≤ length s → take (p + k - p) (drop a (paste l a s k)) ≡ take k s
+pub piece-law : (l s : List ℕ) (a p k : ℕ) → a ≤ length l → k ≤ length s → take (p + k - p) (drop a (paste l a s k)) ≡ take k s
 piece-law l s a p k ha hk =
     let m : p + k - p ≡ k = omega arith in
     ap₂ take m (ap (drop a) (append-assoc (take a l) (take k s) (drop (a + k) l)) ∙ drop-at (take a l) (take k s ++ drop (a + k) l) a (length-take-le a l ha))

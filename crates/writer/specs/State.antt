@@ -1,8 +1,8 @@
 -- The writer's state, and which states are impossible.
 -- Assumes nothing.
 use Prim.Native.Nat.{ℕ, _+_}
-use mathlib.Core.Bool.{Bool, true, false, _||_, not}
-use lib.Dec.{leb, ltb}
+use mathlib.Core.Bool.{Bool, true, false, _||_}
+use lib.Dec.{ltb}
 use Rattle.line.specs.declared.course.Last.the-variants.{Unknown}
 use Rattle.line.specs.declared.course.Place.{Place}
 use Rattle.line.specs.declared.course.Place.the-variants.{Shut}

@@ -1,0 +1,379 @@
+-- A possible state stays possible, whatever is called and however it is answered: answer 2 never follows from a fresh writer.
+-- Assumes nothing.
+use mathlib.Core.Path.{_≡_, refl, sym, ap, ap₂, _∙_, subst}
+use mathlib.Core.Bool.{Bool, true, false, _&&_, _||_, not}
+use mathlib.Core.List.{List, [], _∷_, map}
+use mathlib.Core.Logic.{_⊎_, inl, inr, ⊎-elim}
+use Prim.Native.Nat.{ℕ, suc, _+_, _-_, _*_, _/_, _%_, _≤_, _<_, min}
+use native.Mathlib.Nat.{mod-add-div', add-mod-right, zero-mod, suc-mul, mul-le-mul-right, lt-of-mul-lt-mul-right}
+use native.Mathlib.Omega.{arith}
+use lib.Dec.{T, eqb, leb, ltb}
+use lib.ListN.{length, getD, drop, length-append, length-drop, length-map}
+use borrow.Author.Tests.{eqb-true, eqb-false, eq-eqb, le-leb, le-ltb, ltb-false, not-false}
+use Rattle.lists.specs.Tests.{pick, lowest}
+use Rattle.lists.specs.Lists.{same}
+use Rattle.lists.proofs.Tests.{or-left, or-right, all, both-true, and-true, pick-true, pick-false, lowest-clear}
+use Rattle.words.specs.Modes.{wordOf}
+use Rattle.words.specs.Class.{endCode}
+use Rattle.line.specs.declared.settings.Settings.{Settings}
+use Rattle.line.specs.declared.course.Last.{Last}
+use Rattle.line.specs.declared.course.Place.{Place}
+use Rattle.line.specs.declared.course.Place.the-variants.{Shut, At}
+use Rattle.line.specs.Systems.{systemOf}
+use Rattle.line.specs.Fixed.{placesOf, sizeOf, fillsAll, isVariable, blockRefused}
+use Rattle.line.specs.Settings.{settingsFault, settingsFaults, sameSettings}
+use Rattle.line.proofs.FixedLaws.{size-some}
+use Rattle.line.specs.Course.{isAt, placeOf, blocksEnd, offGrid, misplaced, impossibleAfter}
+use Rattle.writer.specs.declared.state.Rest.{Rest}
+use Rattle.writer.specs.declared.state.Rest.the-variants.{Whole, Part}
+use Rattle.writer.specs.declared.state.Writer.{Writer}
+use Rattle.writer.specs.declared.state.Answer.{Answer}
+use Rattle.writer.specs.declared.state.Answer.the-variants.{Refused, Done}
+use Rattle.writer.specs.declared.state.Laid.{Laid}
+use Rattle.writer.specs.declared.state.Laid.the-variants.{Not, Finished, Unfinished}
+use Rattle.writer.specs.State.{most, isPart, laidOf, fresh, misshapen, impossible, endIn, moved}
+use Rattle.writer.specs.Block.{countWords, blockWords, fixedWords, wordsIn}
+use Rattle.writer.specs.Answers.{answerNumbers, laidNumbers, left, Added, added}
+use Rattle.writer.specs.Opening.{openBlocked, openFault, openState, opening}
+use Rattle.writer.specs.Adding.{illShaped, isOther, addFault, todo, room, lay, adding}
+use Rattle.writer.specs.Closing.{closeFault, closing}
+use Rattle.writer.proofs.Refusals.{Begun, begun, or-false, false-or, can-open, CanAdd, can-add, can-close}
+
+possible-by : (w : Writer) → Begun w → impossible w ≡ false
+unfolding impossible
+possible-by w b =
+    ap (λ (l : Last). impossibleAfter (w .system) l (w .settings) (w .place) (isPart (w .rest)) || misshapen (w .rest)) (b .last)
+    ∙ false-or (false-or (b .range) (false-or (b .clean) (false-or (b .placed) (b .varied)))) (b .shaped)
+
+-- another place and rest in a line that is begun
+moved-begun : (w : Writer) (p : Place) (r : Rest) → Begun w → misplaced (systemOf (w .system) .payload) (w .settings .block) (w .settings .flag) p ≡ false
+    → (isPart r && not (isVariable (w .settings .block))) ≡ false → misshapen r ≡ false → Begun (moved w p r)
+moved-begun w p r b x y z = record { number = b .number; last = b .last; range = b .range; clean = b .clean; placed = x; varied = y; shaped = z }
+
+-- ---- a fixed line: a first place is on the grid
+start-by : (v a z c g : Bool) → (not v && (a || (z || c))) ≡ false → (z ≡ false → g ≡ false) → (not v && g) ≡ false
+start-by true a z c g e h = refl
+start-by false a z c g e h = h (or-false z c (or-false a (z || c) e .1) .0)
+
+start-placed : (system : ℕ) (t : Settings) → settingsFault system t ≡ 0 → misplaced (systemOf system .payload) (t .block) (t .flag) (At 0) ≡ false
+unfolding settingsFault settingsFaults blockRefused offGrid
+start-placed system t clean =
+    let k = lowest-clear 9 (settingsFaults (systemOf system) t) clean in
+    let p = systemOf system .payload in
+    false-or (le-ltb (blocksEnd p (t .block) (t .flag)) 0 (omega arith))
+    (start-by (isVariable (t .block)) (leb 128 (t .block)) _ (eqb (t .flag) 1 && fillsAll p (t .block)) (offGrid (t .block) 0) (k .1 .1 .0)
+    (λ z. false-or (size-some p (t .block) z) (ap not (eq-eqb (0 % sizeOf (t .block)) 0 (zero-mod (sizeOf (t .block)))))))
+
+-- ---- opening: an unfinished block stays, with the same settings
+pub same-block : (t u : Settings) → sameSettings t u ≡ true → t .block ≡ u .block
+unfolding sameSettings
+same-block t u e =
+    let a = both-true (eqb (t .code) (u .code)) _ e .1 in
+    let b = both-true (eqb (t .aai) (u .aai)) _ a .1 in
+    let c = both-true (same (t .destination) (u .destination)) _ b .1 in
+    let d = both-true (same (t .source) (u .source)) _ c .1 in
+    eqb-true _ _ (both-true (eqb (t .block) (u .block)) (eqb (t .flag) (u .flag) && same (t .reserved) (u .reserved)) d .0)
+
+rest-of : (w : Writer) → impossible w ≡ false → misshapen (w .rest) ≡ false
+unfolding impossible
+rest-of w e = or-false (impossibleAfter (w .system) (w .last) (w .settings) (w .place) (isPart (w .rest))) (misshapen (w .rest)) e .1
+
+varied-by : (w : Writer) (t : Settings) (b c d : Bool) → isPart (w .rest) ≡ b → impossible w ≡ false → sameSettings t (w .settings) ≡ c → (b && (not c || d)) ≡ false
+    → (isPart (w .rest) && not (isVariable (t .block))) ≡ false
+varied-by w t false c d is e h z = ap (λ (x : Bool). x && not (isVariable (t .block))) is
+varied-by w t true false d is e h z = absurd (subst T z tt)
+varied-by w t true true d is e h z =
+    ap (λ (x : ℕ). isPart (w .rest) && not (isVariable x)) (same-block t (w .settings) h) ∙ begun w e (or-left (isPart (w .rest)) (isAt (w .place)) is) .varied
+
+open-begun : (w : Writer) (n : ℕ) (t : Settings) (long : ℕ) → openFault w n t long ≡ 0 → Begun (openState w n t)
+unfolding openBlocked
+open-begun w n t long ok =
+    let o = can-open w n t long ok in
+    record {
+      number = n;
+      last = refl;
+      range = ap not (and-true (le-leb 1 n (o .one)) (le-leb n _ (o .last)));
+      clean = ap not (eq-eqb _ _ (o .clean));
+      placed = start-placed (w .system) t (o .clean);
+      varied = varied-by w t (isPart (w .rest)) (sameSettings t (w .settings)) _ refl (o .state) refl (or-false (isAt (w .place)) _ (o .free) .1);
+      shaped = rest-of w (o .state);
+    }
+
+-- a call by its fault
+open-by : (w : Writer) (b : Bool) (n : ℕ) (s : Writer) (l line : List ℕ) → impossible w ≡ false → (b ≡ true → impossible s ≡ false)
+    → impossible (pick b (left Done s l) (left (Refused n) w line) .state) ≡ false
+unfolding pick
+open-by w true n s l line e h = h refl
+open-by w false n s l line e h = e
+
+pub open-possible : (w : Writer) (f v : Bool) (n : ℕ) (t : Settings) (line : List ℕ) → impossible w ≡ false → impossible (opening w f v n t line .state) ≡ false
+unfolding opening
+open-possible w f v n t line e =
+    open-by w (eqb (openFault w n t (length line)) 0) _ (openState w n t) _ line e (λ h. possible-by (openState w n t) (open-begun w n t (length line) (eqb-true _ _ h)))
+
+-- ---- closing
+pub close-possible : (w : Writer) (line : List ℕ) → impossible w ≡ false → impossible (closing w line .state) ≡ false
+unfolding closing
+close-possible w line e =
+    open-by w (eqb (closeFault w (length line)) 0) _ (moved w Shut (w .rest)) _ line e
+    (λ h.
+    let c = can-close w line (eqb-true _ _ h) in
+    let b = begun w e (or-right (isPart (w .rest)) (isAt (w .place)) (c .begun)) in
+    possible-by (moved w Shut (w .rest)) (moved-begun w Shut (w .rest) b refl (b .varied) (b .shaped)))
+
+-- ---- a fresh writer
+pub fresh-possible : (system mode : ℕ) → impossible (fresh system mode) ≡ false
+unfolding impossible
+fresh-possible system mode = refl
+
+-- ---- answer 2 is of an impossible state alone
+lowest-or : (n : ℕ) (cs : List Bool) → (lowest n cs ≡ 0) ⊎ (n ≤ lowest n cs)
+lowest-or n [] = inl refl
+lowest-or n (true ∷ cs) = inr (omega arith)
+lowest-or n (false ∷ cs) = ⊎-elim (λ z. inl z) (λ h. inr (omega arith)) (lowest-or (suc n) cs)
+
+not-2 : (b : Bool) (n r : ℕ) → (n ≡ 2 → ⊥) → (r ≡ 2 → ⊥) → pick b n r ≡ 2 → ⊥
+unfolding pick
+not-2 true n r h k e = h e
+not-2 false n r h k e = k e
+
+settings-2 : (system : ℕ) (t : Settings) → settingsFault system t ≡ 2 → ⊥
+unfolding settingsFault
+settings-2 system t e = ⊎-elim (λ z. omega arith) (λ h. omega arith) (lowest-or 10 (settingsFaults (systemOf system) t))
+
+module _ (w : Writer) (possible : impossible w ≡ false) where
+  past-2 : (r : ℕ) → (r ≡ 2 → ⊥) → pick (impossible w) 2 r ≡ 2 → ⊥
+  past-2 r h e = h (sym (pick-false 2 r possible) ∙ e)
+
+  pub open-never-2 : (n : ℕ) (t : Settings) (long : ℕ) → openFault w n t long ≡ 2 → ⊥
+  unfolding openFault
+  open-never-2 n t long =
+      not-2 _ 1 _ (λ z. omega arith)
+      (past-2 _ (not-2 _ 9 _ (λ z. omega arith) (not-2 _ (settingsFault (w .system) t) _ (settings-2 (w .system) t) (not-2 _ 20 0 (λ z. omega arith) (λ z. omega arith)))))
+
+  pub add-never-2 : (long kind : ℕ) (vs : List ℕ) → addFault w long kind vs ≡ 2 → ⊥
+  unfolding addFault
+  add-never-2 long kind vs =
+      not-2 _ 1 _ (λ z. omega arith)
+      (past-2 _ (not-2 _ 17 _ (λ z. omega arith) (not-2 _ 18 _ (λ z. omega arith) (not-2 _ 19 _ (λ z. omega arith) (not-2 _ 20 0 (λ z. omega arith) (λ z. omega arith))))))
+
+  pub close-never-2 : (long : ℕ) → closeFault w long ≡ 2 → ⊥
+  unfolding closeFault
+  close-never-2 long = not-2 _ 1 _ (λ z. omega arith) (past-2 _ (not-2 _ 20 0 (λ z. omega arith) (λ z. omega arith)))
+
+-- ---- adding: how many words a block has
+pub words-variable : (block mode kind : ℕ) (vs : List ℕ) → isVariable block ≡ true → wordsIn block mode kind vs ≡ blockWords mode kind vs
+unfolding wordsIn
+words-variable block mode kind vs v = pick-true _ _ v
+
+pub words-fixed : (block mode kind : ℕ) (vs : List ℕ) → isVariable block ≡ false → wordsIn block mode kind vs ≡ fixedWords mode kind vs
+unfolding wordsIn
+words-fixed block mode kind vs v = pick-false _ _ v
+
+block-long : (mode kind : ℕ) (vs : List ℕ) → length (blockWords mode kind vs) ≡ length vs + 7
+unfolding blockWords countWords
+block-long mode kind vs = let a = length-append (map (wordOf mode) vs) (endCode ∷ []) in let b = length-map vs (wordOf mode) in omega arith
+
+fixed-long : (mode kind : ℕ) (vs : List ℕ) → length (fixedWords mode kind vs) ≡ length vs + 1
+unfolding fixedWords
+fixed-long mode kind vs = let b = length-map vs (wordOf mode) in omega arith
+
+-- ---- what an accepted addition finds
+fixed-by : (p : Place) (block kind n : ℕ) → isAt p ≡ true → isVariable block ≡ false → illShaped p block kind n ≡ false → n + 1 ≡ sizeOf block
+unfolding illShaped
+fixed-by p block kind n o v e =
+    let a = or-false (ltb 255 kind) _ (or-false (ltb most n) _ e .1) .1 in
+    let b : (not (eqb (n + 1) (sizeOf block)) || eqb kind 0) ≡ false =
+    sym (ap₂ (λ (x y : Bool). (x && not y) && (not (eqb (n + 1) (sizeOf block)) || eqb kind 0)) o v) ∙ a in
+    eqb-true _ _ (not-false _ (or-false (not (eqb (n + 1) (sizeOf block))) _ b .0))
+
+laid-most : (r : Rest) (kind n : ℕ) → misshapen r ≡ false → isOther r kind n ≡ false → laidOf r ≤ n + 6
+laid-most Whole kind n e o = omega arith
+laid-most (Part k m j) kind n e o =
+    let a = or-false (ltb j 1) (ltb (m + 6) j) (or-false (ltb most m) _ e .1) in
+    let b = eqb-true m n (both-true (eqb k kind) (eqb m n) (not-false _ o) .1) in
+    omega (arith, ltb-false (m + 6) j (a .1), b)
+
+whole-by : (r : Rest) (v : Bool) → (isPart r && not v) ≡ false → v ≡ false → r ≡ Whole
+whole-by Whole v e h = refl
+whole-by (Part k m j) true e h = absurd (subst T h tt)
+whole-by (Part k m j) false e h = absurd (subst T e tt)
+
+-- a place of a fixed line stands on the grid, and the next one is whole
+grid-by : (a v g : Bool) → v ≡ false → (a || (not v && g)) ≡ false → g ≡ false
+grid-by a true g v e = absurd (subst T v tt)
+grid-by a false g v e = or-false a g e .1
+
+placed-grid : (p block flag : ℕ) (pl : Place) → isAt pl ≡ true → isVariable block ≡ false → misplaced p block flag pl ≡ false → offGrid block (placeOf pl) ≡ false
+placed-grid p block flag Shut o v e = absurd (subst T (sym o) tt)
+placed-grid p block flag (At q) o v e = grid-by (ltb (blocksEnd p block flag) q) (isVariable block) (offGrid block q) v e
+
+next-place : (s q p : ℕ) → p % s ≡ 0 → p < q * s → p + s ≤ q * s
+next-place s q p e h =
+    let d : p / s * s ≡ p = omega (arith, mod-add-div' p s, e) in
+    let l : p / s < q = lt-of-mul-lt-mul-right s (subst (λ (x : ℕ). x < q * s) (sym d) h) in
+    let m : suc (p / s) * s ≤ q * s = mul-le-mul-right s l in
+    omega (arith, m, suc-mul (p / s) s, d)
+
+next-grid : (block q : ℕ) → offGrid block q ≡ false → offGrid block (q + sizeOf block) ≡ false
+unfolding offGrid
+next-grid block q e =
+    let a = or-false (eqb (sizeOf block) 0) _ e in
+    false-or (a .0) (ap (λ (x : ℕ). not (eqb x 0)) (add-mod-right q (sizeOf block)) ∙ a .1)
+
+ends-fixed : (p block flag : ℕ) → isVariable block ≡ false → blocksEnd p block flag ≡ placesOf p block * sizeOf block
+unfolding blocksEnd
+ends-fixed p block flag v = pick-false _ _ v
+
+on-grid : (block q : ℕ) → offGrid block q ≡ false → q % sizeOf block ≡ 0
+unfolding offGrid
+on-grid block q e = eqb-true _ _ (not-false _ (or-false (eqb (sizeOf block) 0) _ e .1))
+
+-- an unfinished block: 1 to n+6 words laid
+part-range : (end p long n j k : ℕ) → p < end → long ≡ n + 7 - j → j ≤ n + 6 → k ≡ min (end - p) long → (k ≡ long → ⊥) → (1 ≤ j + k) × (j + k ≤ n + 6)
+part-range end p long n j k a b c d e = (omega arith, omega arith)
+
+rest-after : (b : Bool) (kind n j : ℕ) → n ≤ most → (b ≡ false → (1 ≤ j) × (j ≤ n + 6)) → misshapen (pick b Whole (Part kind n j)) ≡ false
+unfolding pick
+rest-after true kind n j m h = refl
+rest-after false kind n j m h = false-or (le-ltb most n m) (false-or (le-ltb j 1 (h refl .0)) (le-ltb (n + 6) j (h refl .1)))
+
+varied-any : (r : Rest) (v : Bool) → v ≡ true → (isPart r && not v) ≡ false
+varied-any Whole v e = refl
+varied-any (Part k m j) v e = ap not e
+
+-- ---- the state after an accepted addition
+module _ (w : Writer) (line : List ℕ) (kind : ℕ) (vs : List ℕ) (ok : addFault w (length line) kind vs ≡ 0) where
+  abbrev block : ℕ
+  block = w .settings .block
+
+  abbrev ws : List ℕ
+  ws = todo w kind vs
+
+  abbrev k : ℕ
+  k = room w (todo w kind vs)
+
+  abbrev rest′ : Rest
+  rest′ = pick (eqb (room w (todo w kind vs)) (length (todo w kind vs))) Whole (Part kind (length vs) (laidOf (w .rest) + room w (todo w kind vs)))
+
+  adds : CanAdd w line kind vs
+  adds = can-add w line kind vs ok
+
+  pub at-adding : Begun w
+  at-adding = begun w (adds .state) (or-right (isPart (w .rest)) (isAt (w .place)) (adds .begun))
+
+  pub free : placeOf (w .place) < endIn w
+  free = adds .room
+
+  -- a variable line: the place is within the area, and what is left of the block is of 1 to n+6 words laid
+  variable-long : isVariable (w .settings .block) ≡ true → length ws ≡ length vs + 7 - laidOf (w .rest)
+  variable-long v =
+      length-drop (laidOf (w .rest)) (wordsIn block (w .mode) kind vs)
+      ∙ ap (λ (x : ℕ). x - laidOf (w .rest)) (ap length (words-variable block (w .mode) kind vs v) ∙ block-long (w .mode) kind vs)
+
+  pub part-laid : isVariable (w .settings .block) ≡ true → (room w (todo w kind vs) ≡ length (todo w kind vs) → ⊥)
+      → (1 ≤ laidOf (w .rest) + room w (todo w kind vs)) × (laidOf (w .rest) + room w (todo w kind vs) ≤ length vs + 6)
+  part-laid v h =
+      part-range (endIn w) (placeOf (w .place)) (length ws) (length vs) (laidOf (w .rest)) k free (variable-long v)
+      (laid-most (w .rest) kind (length vs) (at-adding .shaped) (adds .same)) refl h
+
+  variable-after : isVariable (w .settings .block) ≡ true → Begun (moved w (At (placeOf (w .place) + k)) rest′)
+  variable-after v =
+      moved-begun w _ rest′ at-adding (false-or (le-ltb (endIn w) (placeOf (w .place) + k) (let f = free in omega arith)) (ap (λ (b : Bool). not b && offGrid block (placeOf (w .place) + k)) v))
+      (varied-any rest′ (isVariable block) v)
+      (rest-after (eqb k (length ws)) kind (length vs) (laidOf (w .rest) + k) (adds .number)
+      (λ e. part-laid v (eqb-false _ _ e)))
+
+  -- a fixed line: the block is laid whole, up to the next place
+  pub fixed-whole : isVariable (w .settings .block) ≡ false → w .rest ≡ Whole
+  fixed-whole v = whole-by (w .rest) (isVariable block) (at-adding .varied) v
+
+  fixed-size : isVariable (w .settings .block) ≡ false → length ws ≡ sizeOf block
+  fixed-size v =
+      ap (λ (r : Rest). length (drop (laidOf r) (wordsIn block (w .mode) kind vs))) (fixed-whole v)
+      ∙ ap length (words-fixed block (w .mode) kind vs v)
+      ∙ fixed-long (w .mode) kind vs
+      ∙ fixed-by (w .place) block kind (length vs) (adds .begun) v (adds .shape)
+
+  fixed-grid : isVariable (w .settings .block) ≡ false → offGrid block (placeOf (w .place)) ≡ false
+  fixed-grid v = placed-grid _ block (w .settings .flag) (w .place) (adds .begun) v (at-adding .placed)
+
+  fixed-next : isVariable (w .settings .block) ≡ false → placeOf (w .place) + sizeOf block ≤ endIn w
+  fixed-next v =
+      let e = ends-fixed (systemOf (w .system) .payload) block (w .settings .flag) v in
+      subst (λ (x : ℕ). placeOf (w .place) + sizeOf block ≤ x) (sym e)
+      (next-place (sizeOf block) (placesOf (systemOf (w .system) .payload) block) (placeOf (w .place)) (on-grid block (placeOf (w .place)) (fixed-grid v))
+      (subst (λ (x : ℕ). placeOf (w .place) < x) e free))
+
+  pub fixed-fits : isVariable (w .settings .block) ≡ false → room w (todo w kind vs) ≡ length (todo w kind vs)
+  fixed-fits v = let a = fixed-next v in let b = fixed-size v in omega arith
+
+  fixed-after : isVariable (w .settings .block) ≡ false → Begun (moved w (At (placeOf (w .place) + k)) rest′)
+  fixed-after v =
+      let all = fixed-fits v in
+      let next : placeOf (w .place) + k ≡ placeOf (w .place) + sizeOf block = ap (λ (x : ℕ). placeOf (w .place) + x) (all ∙ fixed-size v) in
+      let whole : rest′ ≡ Whole = pick-true _ _ (eq-eqb _ _ all) in
+      moved-begun w _ rest′ at-adding
+      (subst (λ (x : ℕ). misplaced (systemOf (w .system) .payload) block (w .settings .flag) (At x) ≡ false) (sym next)
+      (false-or (le-ltb (endIn w) _ (fixed-next v)) (ap₂ (λ (b c : Bool). not b && c) v (next-grid block (placeOf (w .place)) (fixed-grid v)))))
+      (ap (λ (r : Rest). isPart r && not (isVariable block)) whole)
+      (ap misshapen whole)
+
+  add-begun : Begun (moved w (At (placeOf (w .place) + k)) rest′)
+  add-begun = go (isVariable block) refl
+    where
+      go : (b : Bool) → isVariable block ≡ b → Begun (moved w (At (placeOf (w .place) + k)) rest′)
+      go true v = variable-after v
+      go false v = fixed-after v
+
+add-by : (w : Writer) (b : Bool) (n : ℕ) (x : Added) (line : List ℕ) → impossible w ≡ false → (b ≡ true → impossible (x .state) ≡ false)
+    → impossible (pick b x (added (Not n) w line) .state) ≡ false
+unfolding pick
+add-by w true n x line e h = h refl
+add-by w false n x line e h = e
+
+pub add-possible : (w : Writer) (line : List ℕ) (kind : ℕ) (vs : List ℕ) → impossible w ≡ false → impossible (adding w line kind vs .state) ≡ false
+unfolding adding
+add-possible w line kind vs e =
+    add-by w (eqb (addFault w (length line) kind vs) 0) _ (lay w line kind vs) line e (λ h. possible-by _ (add-begun w line kind vs (eqb-true _ _ h)))
+
+-- ---- any calls, from a fresh writer on
+pub data Reached (system mode : ℕ) : Writer → Type 0 where
+  starts : Reached system mode (fresh system mode)
+  opens : {w : Writer} (f v : Bool) (n : ℕ) (t : Settings) (line : List ℕ) → Reached system mode w → Reached system mode (opening w f v n t line .state)
+  lays : {w : Writer} (line : List ℕ) (kind : ℕ) (vs : List ℕ) → Reached system mode w → Reached system mode (adding w line kind vs .state)
+  shuts : {w : Writer} (line : List ℕ) → Reached system mode w → Reached system mode (closing w line .state)
+
+pub reached-possible : (system mode : ℕ) (w : Writer) → Reached system mode w → impossible w ≡ false
+reached-possible system mode w starts = fresh-possible system mode
+reached-possible system mode _ (opens {w} f v n t line r) = open-possible w f v n t line (reached-possible system mode w r)
+reached-possible system mode _ (lays {w} line kind vs r) = add-possible w line kind vs (reached-possible system mode w r)
+reached-possible system mode _ (shuts {w} line r) = close-possible w line (reached-possible system mode w r)
+
+-- so answer 2 is given to none of them
+pub record Never2 (w : Writer) : Type 0 where
+  pub by-opening : (f v : Bool) (n : ℕ) (t : Settings) (line : List ℕ) → opening w f v n t line .answer ≡ Refused 2 → ⊥
+  pub by-adding : (line : List ℕ) (kind : ℕ) (vs : List ℕ) → adding w line kind vs .answer ≡ Not 2 → ⊥
+  pub by-closing : (line : List ℕ) → closing w line .answer ≡ Refused 2 → ⊥
+
+refused-is : (b : Bool) (s w : Writer) (l line : List ℕ) (n k : ℕ) → pick b (left Done s l) (left (Refused n) w line) .answer ≡ Refused k → n ≡ k
+unfolding pick
+refused-is true s w l line n k e = absurd (omega (arith, ap (λ (a : Answer). length (answerNumbers a)) e))
+refused-is false s w l line n k e = ap (λ (a : Answer). getD (answerNumbers a) 0 0) e
+
+not-is : (b f : Bool) (s w : Writer) (l line : List ℕ) (n k : ℕ) → pick b (added (pick f Finished Unfinished) s l) (added (Not n) w line) .answer ≡ Not k → n ≡ k
+unfolding pick
+not-is true true s w l line n k e = absurd (omega (arith, ap (λ (a : Laid). length (laidNumbers a)) e))
+not-is true false s w l line n k e = absurd (omega (arith, ap (λ (a : Laid). length (laidNumbers a)) e))
+not-is false f s w l line n k e = ap (λ (a : Laid). getD (laidNumbers a) 0 0) e
+
+pub never-2 : (w : Writer) → impossible w ≡ false → Never2 w
+unfolding opening adding closing
+never-2 w p = record {
+  by-opening = λ f v n t line e. open-never-2 w p n t (length line) (refused-is _ _ _ _ _ (openFault w n t (length line)) 2 e);
+  by-adding = λ line kind vs e. add-never-2 w p (length line) kind vs (not-is _ _ _ _ _ _ (addFault w (length line) kind vs) 2 e);
+  by-closing = λ line e. close-never-2 w p (length line) (refused-is _ _ _ _ _ (closeFault w (length line)) 2 e);
+}
+
+pub fresh-never-2 : (system mode : ℕ) (w : Writer) → Reached system mode w → Never2 w
+fresh-never-2 system mode w r = never-2 w (reached-possible system mode w r)
