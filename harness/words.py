@@ -1,7 +1,8 @@
-"""What the scripts share: rows of crates/worked/stdout, 01's fixed blocks, forms of words, and the CRC by programs that are not ours.
+"""What the scripts share: rows of crates/worked/stdout, 01's tables, forms of words, headers, and the CRC by programs that are not ours.
 
 Written from 01, not from our code. The two programs: crccheck (Python) and Digest::CRC (Perl), both from Debian.
 """
+import functools
 import re
 import subprocess
 import sys
@@ -9,7 +10,9 @@ import sys
 from crccheck.crc import Crc
 
 ALL_ONES = 0x3FFFF
-NAMES = ["crc", "header", "check", "fit"]
+NAMES = ["crc", "header", "check", "fit", "wrote", "fresh", "opened", "added", "closed"]
+FIRST_SIX = [0x000, 0x3FF, 0x3FF, 0x140, 0x101, 0x22E]
+FILLER = 0x200
 
 
 def rows(path, script, *names):
@@ -108,3 +111,83 @@ def crc_words(register):
 def checksum(words):
     """The sum of the nine low bits, modulo 512, in data form."""
     return data_form(sum(w & 0x1FF for w in words))
+
+
+@functools.cache
+def crc_of_tuple(words):
+    return crc_words(by_python([words])[0])
+
+
+def crc_of(words):
+    """The two CRC words of words, by crccheck."""
+    return crc_of_tuple(tuple(words))
+
+
+class Scope:
+    """The two tables of 01 that lines and answers need."""
+
+    def __init__(self, path, script):
+        with open(path, encoding="utf-8") as f:
+            text = f.read()
+        # | System | Rate, frame | Line length L | Payload P | Lines N |
+        table = re.findall(r"^\| (\d) \| (?:270|360), (?:525|625) \| (\d+) \| (\d+) \| (\d+) \|$", text, re.M)
+        self.systems = {int(row[0]): tuple(map(int, row[1:])) for row in table}
+        self.fixed = fixed_blocks(text)
+        if len(self.systems) != 4 or len(self.fixed) < 30:
+            sys.exit(f"{script}: cannot read the tables of 01")
+
+
+def settings(code, aai, block, flag, seed):
+    """Code, AAI, block type, flag, destination, source, reserved, as the check hands them out."""
+    v = [x & 0xFF for x in made(seed, 32)]
+    return [code, aai, block, flag, *v, 0, 0, 0, 0, 0]
+
+
+def header(number, values, line_crc, header_crc):
+    """The 53 words; each CRC is a function of the words it covers."""
+    code, aai, block, flag = values[:4]
+    h = FIRST_SIX + [byte_form(number), byte_form(number >> 8 & 3)]
+    h += line_crc(h[3:])
+    covered = [byte_form(x) for x in [code & 15 | (aai & 15) << 4, *values[4:36], block, flag, *values[36:]]]
+    h += covered + header_crc(covered)
+    return h + [checksum(h[3:])]
+
+
+def timing(f, v, h):
+    """EAV where h is 1, SAV where it is 0."""
+    bits = [1, f, v, h, v ^ h, f ^ h, f ^ v, f ^ v ^ h, 0, 0]  # B9 to B0
+    return [0x3FF, 0, 0, int("".join(map(str, bits)), 2)]
+
+
+def opened_line(scope, system, f, v, number, values):
+    """EAV, header, gap, SAV, and a payload all 200h."""
+    length, payload, _ = scope.systems[system]
+    line = timing(f, v, 1) + header(number, values, crc_of, crc_of)
+    line += [0x040 if i % 2 else FILLER for i in range(57, length - payload - 4)]
+    return line + timing(f, v, 0) + [FILLER] * payload
+
+
+def block_wrong(scope, payload, block, flag):
+    if block == 0xC1:
+        return False
+    kind = block & 0x3F
+    if block & 0x80 or kind not in scope.fixed:
+        return True
+    _, at270, at360 = scope.fixed[kind]
+    fills = kind == 0x38 or (kind == 0x37 and payload == 1440)
+    return (at270 if payload == 1440 else at360) == 0 or (fills and flag == 1)
+
+
+def settings_fault(scope, system, values):
+    """The lowest of 10 to 14 that holds, or 0."""
+    _, payload, _ = scope.systems[system]
+    code, aai, block, flag = values[:4]
+    if code != {1440: 1, 1920: 2}[payload]:
+        return 10
+    if aai not in (0, 1):
+        return 11
+    if block_wrong(scope, payload, block, flag):
+        return 12
+    if flag not in (0, 1):
+        return 13
+    return 14 if any(values[36:]) else 0
