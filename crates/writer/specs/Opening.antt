@@ -20,7 +20,7 @@ use Rattle.writer.specs.declared.state.Answer.the-variants.{Refused, Don
 use Rattle.writer.specs.State.{isPart, impossible}
 use Rattle.writer.specs.Answers.{Left, left}
 
--- the number that comes next; with no last number none does
+-- the number that comes next; with no last number 0, which is no line's number (9)
 abbrev pub isNext : ℕ → Last → ℕ → Bool
 isNext lines Unknown n = eqb n 0
 isNext lines (Number x) n = eqb n (nextNumber lines x)
