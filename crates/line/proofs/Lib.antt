@@ -2,7 +2,6 @@ pub mod SystemLaws
 pub mod FixedLaws
 pub mod AreaLaws
 pub mod CheckLaws
-pub mod CourseLaws
 pub mod Written
 pub mod Headers
 pub mod Lines

@@ -5,4 +5,3 @@ pub mod Settings
 pub mod Header
 pub mod Layout
 pub mod Check
-pub mod Course

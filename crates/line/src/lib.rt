@@ -6,6 +6,5 @@ pub mod timing; // timing.rt: EAV and SAV
 pub mod header; // header.rt: the 53 header words, written
 pub mod layout; // layout.rt: the area of a line
 pub mod check; // check.rt: the line check, answers 1 and 3 to 16
-pub mod course; // course.rt: what a writer and a reader hold of a course of lines
 mod head; // head.rt: the conditions 3 to 9, and what stands in a header
 mod area; // area.rt: the conditions 15 and 16

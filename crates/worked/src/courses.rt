@@ -2,7 +2,6 @@
 use crate::calls;
 use crate::calls::Heading;
 use crate::wholes;
-use line::course;
 use writer::state::Writer;
 ghost use Prim.Native.Nat.{_<_, _≤_};
 

@@ -14,10 +14,10 @@ use Rattle.lists.specs.Tests.{pick}
 use Rattle.lists.proofs.Tests.{pick-true, pick-false}
 use Rattle.words.specs.Crc.{crcOf, crcLow, crcHigh, crcWords}
 use Rattle.line.specs.declared.systems.System.{System}
-use Rattle.line.specs.declared.course.Place.the-variants.{Shut, At}
+use Rattle.course.specs.declared.Place.the-variants.{Shut, At}
 use Rattle.line.specs.Systems.{systemOf}
 use Rattle.line.specs.Layout.{payloadAt, areaLength, areaOf, endWords}
-use Rattle.line.specs.Course.{placeOf}
+use Rattle.course.specs.Course.{placeOf}
 use Rattle.writer.specs.declared.state.Rest.{Rest}
 use Rattle.writer.specs.declared.state.Rest.the-variants.{Whole, Part}
 use Rattle.writer.specs.declared.state.Writer.{Writer}

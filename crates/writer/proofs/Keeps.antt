@@ -11,7 +11,7 @@ use borrow.Author.Tests.{eq-eqb, ne-eqb, eqb-true}
 use Rattle.lists.specs.Tests.{pick}
 use Rattle.lists.proofs.Tests.{pick-true, pick-false}
 use Rattle.line.specs.declared.settings.Settings.{Settings}
-use Rattle.line.specs.declared.course.Place.the-variants.{Shut}
+use Rattle.course.specs.declared.Place.the-variants.{Shut}
 use Rattle.line.specs.Systems.{systemOf}
 use Rattle.writer.specs.declared.state.Writer.{Writer}
 use Rattle.writer.specs.declared.state.Answer.the-variants.{Refused, Done}

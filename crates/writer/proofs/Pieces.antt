@@ -17,12 +17,12 @@ use Rattle.words.specs.Forms.{byteWord}
 use Rattle.words.specs.Modes.{wordOf}
 use Rattle.words.specs.Class.{separator, endCode}
 use Rattle.line.specs.declared.settings.Settings.{Settings}
-use Rattle.line.specs.declared.course.Place.the-variants.{Shut}
+use Rattle.course.specs.declared.Place.the-variants.{Shut}
 use Rattle.line.specs.Systems.{systemOf}
 use Rattle.line.specs.Fixed.{isVariable}
 use Rattle.line.specs.Settings.{sameSettings}
 use Rattle.line.specs.Layout.{payloadAt}
-use Rattle.line.specs.Course.{isAt, placeOf}
+use Rattle.course.specs.Course.{isAt, placeOf}
 use Rattle.writer.specs.declared.state.Rest.{Rest}
 use Rattle.writer.specs.declared.state.Rest.the-variants.{Whole, Part}
 use Rattle.writer.specs.declared.state.Writer.{Writer}

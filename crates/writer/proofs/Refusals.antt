@@ -12,16 +12,16 @@ use Rattle.lists.specs.Tests.{pick}
 use Rattle.lists.proofs.Tests.{or-right, both-true, lowest-clear}
 use Rattle.words.specs.Modes.{isMode}
 use Rattle.line.specs.declared.settings.Settings.{Settings}
-use Rattle.line.specs.declared.course.Last.{Last}
-use Rattle.line.specs.declared.course.Last.the-variants.{Unknown, Number}
-use Rattle.line.specs.declared.course.Place.{Place}
-use Rattle.line.specs.declared.course.Place.the-variants.{Shut, At}
+use Rattle.course.specs.declared.Last.{Last}
+use Rattle.course.specs.declared.Last.the-variants.{Unknown, Number}
+use Rattle.course.specs.declared.Place.{Place}
+use Rattle.course.specs.declared.Place.the-variants.{Shut, At}
 use Rattle.line.specs.Systems.{systemOf, isSystem}
 use Rattle.line.specs.Fixed.{isVariable, sizeOf, placesOf, blockRefused}
 use Rattle.line.specs.Settings.{settingsFaults, settingsFault}
 use Rattle.line.specs.Layout.{areaLength}
 use Rattle.line.specs.Check.{fitsLength}
-use Rattle.line.specs.Course.{isAt, placeOf, blocksEnd, misplaced, impossibleAfter}
+use Rattle.course.specs.Course.{isAt, placeOf, blocksEnd, misplaced, impossibleAfter}
 use Rattle.line.proofs.SystemLaws.{Sound, sound, Fit, fitting}
 use Rattle.line.proofs.FixedLaws.{places-in-area}
 use Rattle.writer.specs.declared.state.Rest.{Rest}

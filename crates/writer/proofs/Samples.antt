@@ -17,7 +17,7 @@ use Rattle.line.specs.Fixed.{blockRefused}
 use Rattle.line.specs.Settings.{Held, settingsFault, settingsFaults}
 use Rattle.line.specs.Layout.{areaLength}
 use Rattle.line.specs.Check.{fitsLength}
-use Rattle.line.specs.Course.{blocksEnd}
+use Rattle.course.specs.Course.{blocksEnd}
 use Rattle.writer.specs.declared.state.Writer.{Writer}
 use Rattle.writer.specs.State.{fresh, impossible}
 use Rattle.writer.specs.Block.{countWords, blockWords, wordsIn}

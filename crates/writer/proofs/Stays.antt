@@ -16,14 +16,14 @@ use Rattle.lists.proofs.Tests.{or-left, or-right, all, both-true, and-true, pic
 use Rattle.words.specs.Modes.{wordOf}
 use Rattle.words.specs.Class.{endCode}
 use Rattle.line.specs.declared.settings.Settings.{Settings}
-use Rattle.line.specs.declared.course.Last.{Last}
-use Rattle.line.specs.declared.course.Place.{Place}
-use Rattle.line.specs.declared.course.Place.the-variants.{Shut, At}
+use Rattle.course.specs.declared.Last.{Last}
+use Rattle.course.specs.declared.Place.{Place}
+use Rattle.course.specs.declared.Place.the-variants.{Shut, At}
 use Rattle.line.specs.Systems.{systemOf}
 use Rattle.line.specs.Fixed.{placesOf, sizeOf, fillsAll, isVariable, blockRefused}
 use Rattle.line.specs.Settings.{settingsFault, settingsFaults, sameSettings}
 use Rattle.line.proofs.FixedLaws.{size-some}
-use Rattle.line.specs.Course.{isAt, placeOf, blocksEnd, offGrid, misplaced, impossibleAfter}
+use Rattle.course.specs.Course.{isAt, placeOf, blocksEnd, offGrid, misplaced, impossibleAfter}
 use Rattle.writer.specs.declared.state.Rest.{Rest}
 use Rattle.writer.specs.declared.state.Rest.the-variants.{Whole, Part}
 use Rattle.writer.specs.declared.state.Writer.{Writer}

@@ -14,13 +14,13 @@ use lib.Seq.{paste, length-take-le, take-at, drop-at}
 use Rattle.lists.specs.Lists.{each}
 use Rattle.lists.proofs.Lists.{each-append}
 use Rattle.line.specs.declared.settings.Settings.{Settings}
-use Rattle.line.specs.declared.course.Place.the-variants.{At}
+use Rattle.course.specs.declared.Place.the-variants.{At}
 use Rattle.line.specs.Systems.{systemOf, isSystem}
 use Rattle.line.specs.Fixed.{isVariable}
 use Rattle.line.specs.Settings.{Held, settingsFault}
 use Rattle.line.specs.Layout.{payloadAt, areaLength, framed, lineWords}
 use Rattle.line.specs.Check.{legal}
-use Rattle.line.specs.Course.{placeOf, blocksEnd}
+use Rattle.course.specs.Course.{placeOf, blocksEnd}
 use Rattle.line.proofs.SystemLaws.{Sound}
 use Rattle.line.proofs.Lines.{Buildable, Accepted, accepted}
 use Rattle.writer.specs.declared.state.Writer.{Writer}

@@ -9,13 +9,13 @@ use lib.Seq.{paste}
 use Rattle.lists.specs.Tests.{pick, when, lowestOf}
 use Rattle.lists.specs.Lists.{each}
 use Rattle.words.specs.Modes.{values}
-use Rattle.line.specs.declared.course.Place.{Place}
-use Rattle.line.specs.declared.course.Place.the-variants.{Shut, At}
+use Rattle.course.specs.declared.Place.{Place}
+use Rattle.course.specs.declared.Place.the-variants.{Shut, At}
 use Rattle.line.specs.Systems.{systemOf}
 use Rattle.line.specs.Fixed.{isVariable, sizeOf}
 use Rattle.line.specs.Layout.{payloadAt}
 use Rattle.line.specs.Check.{fitsLength}
-use Rattle.line.specs.Course.{isAt, placeOf}
+use Rattle.course.specs.Course.{isAt, placeOf}
 use Rattle.writer.specs.declared.state.Rest.{Rest}
 use Rattle.writer.specs.declared.state.Rest.the-variants.{Whole, Part}
 use Rattle.writer.specs.declared.state.Writer.{Writer}

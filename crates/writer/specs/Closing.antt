@@ -7,11 +7,11 @@ use lib.Dec.{eqb}
 use lib.ListN.{length, take}
 use Rattle.lists.specs.Tests.{pick, when, lowestOf}
 use Rattle.line.specs.declared.systems.System.{System}
-use Rattle.line.specs.declared.course.Place.the-variants.{Shut}
+use Rattle.course.specs.declared.Place.the-variants.{Shut}
 use Rattle.line.specs.Systems.{systemOf}
 use Rattle.line.specs.Layout.{payloadAt, areaLength, areaOf, endWords}
 use Rattle.line.specs.Check.{fitsLength}
-use Rattle.line.specs.Course.{isAt}
+use Rattle.course.specs.Course.{isAt}
 use Rattle.writer.specs.declared.state.Writer.{Writer}
 use Rattle.writer.specs.declared.state.Answer.the-variants.{Refused, Done}
 use Rattle.writer.specs.State.{isPart, impossible, endIn, moved}

@@ -8,7 +8,7 @@ use lib.ListN.{length, take, drop, replicate}
 use Rattle.line.specs.declared.settings.Settings.{Settings}
 use Rattle.line.specs.Systems.{systemOf}
 use Rattle.line.specs.Layout.{payloadAt, areaLength}
-use Rattle.line.specs.Course.{placeOf}
+use Rattle.course.specs.Course.{placeOf}
 use Rattle.writer.specs.declared.state.Writer.{Writer}
 use Rattle.writer.specs.declared.state.Answer.the-variants.{Refused, Done}
 use Rattle.writer.specs.declared.state.Laid.the-variants.{Finished, Unfinished}

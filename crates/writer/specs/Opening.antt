@@ -7,14 +7,14 @@ use lib.Dec.{eqb, leb}
 use lib.ListN.{length, replicate}
 use Rattle.lists.specs.Tests.{pick, when, lowestOf}
 use Rattle.line.specs.declared.settings.Settings.{Settings}
-use Rattle.line.specs.declared.course.Last.{Last}
-use Rattle.line.specs.declared.course.Last.the-variants.{Unknown, Number}
-use Rattle.line.specs.declared.course.Place.the-variants.{At}
+use Rattle.course.specs.declared.Last.{Last}
+use Rattle.course.specs.declared.Last.the-variants.{Unknown, Number}
+use Rattle.course.specs.declared.Place.the-variants.{At}
 use Rattle.line.specs.Systems.{systemOf}
 use Rattle.line.specs.Settings.{settingsFault, sameSettings}
 use Rattle.line.specs.Layout.{framed}
 use Rattle.line.specs.Check.{fitsLength}
-use Rattle.line.specs.Course.{isAt, nextNumber}
+use Rattle.course.specs.Course.{isAt, nextNumber}
 use Rattle.writer.specs.declared.state.Writer.{Writer}
 use Rattle.writer.specs.declared.state.Answer.the-variants.{Refused, Done}
 use Rattle.writer.specs.State.{isPart, impossible}

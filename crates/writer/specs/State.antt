@@ -3,12 +3,12 @@
 use Prim.Native.Nat.{ℕ, _+_}
 use mathlib.Core.Bool.{Bool, true, false, _||_}
 use lib.Dec.{ltb}
-use Rattle.line.specs.declared.course.Last.the-variants.{Unknown}
-use Rattle.line.specs.declared.course.Place.{Place}
-use Rattle.line.specs.declared.course.Place.the-variants.{Shut}
+use Rattle.course.specs.declared.Last.the-variants.{Unknown}
+use Rattle.course.specs.declared.Place.{Place}
+use Rattle.course.specs.declared.Place.the-variants.{Shut}
 use Rattle.line.specs.Settings.{noSettings}
 use Rattle.line.specs.Systems.{systemOf}
-use Rattle.line.specs.Course.{impossibleAfter, blocksEnd}
+use Rattle.course.specs.Course.{impossibleAfter, blocksEnd}
 use Rattle.writer.specs.declared.state.Rest.{Rest}
 use Rattle.writer.specs.declared.state.Rest.the-variants.{Whole, Part}
 use Rattle.writer.specs.declared.state.Writer.{Writer}

@@ -1,7 +1,6 @@
 // The writer's state and answers, and which states are impossible.
-use line::course;
-use line::course::Last;
-use line::course::Place;
+use course::Last;
+use course::Place;
 use line::settings;
 use line::settings::Settings;
 ghost use mathlib.Core.Path.{_≡_};

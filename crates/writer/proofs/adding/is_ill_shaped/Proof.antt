@@ -5,7 +5,7 @@ use mathlib.Core.Bool.{Bool, _&&_, _||_, not}
 use lib.Dec.{eqb, ltb}
 use borrow.Author.Tests.{lt-ltb, le-ltb}
 use Rattle.line.specs.Fixed.{isVariable, sizeOf}
-use Rattle.line.specs.Course.{isAt}
+use Rattle.course.specs.Course.{isAt}
 use Rattle.writer.specs.Adding.{illShaped}
 use borrow.Author.Needs.{needs}
 use Rattle.writer.proofs.adding.is_ill_shaped.Statement.{statement}

@@ -1,12 +1,12 @@
--- `line::course::next_number` meets its contract. Assumes nothing.
+-- `course::next_number` meets its contract. Assumes nothing.
 use mathlib.Core.Path.{_≡_, sym, ap, ap₂, _∙_}
 use borrow.Author.Tests.{eq-eqb, ne-eqb, lt-ltb, le-ltb}
 use Rattle.lists.proofs.Tests.{pick-true, pick-false}
 use native.Mathlib.Numerals.{add-one}
-use Rattle.line.specs.Course.{nextNumber}
+use Rattle.course.specs.Course.{nextNumber}
 use borrow.Author.Needs.{needs}
-use Rattle.line.proofs.course.next_number.Statement.{statement}
-use Rattle.line.proofs.course.next_number.Tie as tie
+use Rattle.course.proofs.next_number.Statement.{statement}
+use Rattle.course.proofs.next_number.Tie as tie
 
 add-result : tie.Need-add-result
 add-result c = search needs

@@ -1,13 +1,13 @@
--- `line::course::is_misplaced` meets its contract. Assumes nothing.
+-- `course::is_misplaced` meets its contract. Assumes nothing.
 use mathlib.Core.Path.{sym, ap, ap₂, _∙_}
 use Prim.Native.Nat.{ℕ}
 use mathlib.Core.Bool.{Bool, _&&_, _||_, not}
 use lib.Dec.{ltb}
-use Rattle.line.specs.declared.course.Place.{Place}
-use Rattle.line.specs.Course.{misplaced}
+use Rattle.course.specs.declared.Place.{Place}
+use Rattle.course.specs.Course.{misplaced}
 use borrow.Author.Needs.{needs}
-use Rattle.line.proofs.course.is_misplaced.Statement.{statement}
-use Rattle.line.proofs.course.is_misplaced.Tie as tie
+use Rattle.course.proofs.is_misplaced.Statement.{statement}
+use Rattle.course.proofs.is_misplaced.Tie as tie
 
 enum-told : tie.Need-enum-told
 enum-told c = search needs

@@ -5,8 +5,8 @@ use mathlib.Core.Bool.{Bool, true, _||_, not}
 use Prim.Native.Nat.{ℕ, _%_}
 use lib.Dec.{eqb}
 use borrow.Author.Tests.{eq-eqb, ne-eqb}
 use Rattle.line.specs.Fixed.{sizeOf}
-use Rattle.line.specs.Course.{offGrid}
+use Rattle.course.specs.Course.{offGrid}
 
 pub off-none : (block q : ℕ) → sizeOf block ≡ 0 → offGrid block q ≡ true
 unfolding offGrid

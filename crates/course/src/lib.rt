@@ -1,12 +1,8 @@
 // What a writer and a reader both hold of a course of lines: the last number and the place in the line; and the part of the
 // impossible rule that is the same for both.
-use crate::fixed;
-use crate::layout;
-use crate::settings;
-use crate::settings::Settings;
-use crate::systems;
+use line::settings::Settings;
 ghost use mathlib.Core.Path.{_≡_};
-ghost use Rattle.line.specs.Course.{nextNumber, isAt, placeOf, blocksEnd, offGrid, misplaced, impossibleAfter};
+ghost use Rattle.course.specs.Course.{nextNumber, isAt, placeOf, blocksEnd, offGrid, misplaced, impossibleAfter};
 
 // The last accepted line number (the writer's: last opened), or none.
 pub enum Last {
@@ -51,11 +47,11 @@ pub fn place_of(place: Place) -> usize
 pub fn blocks_end(payload: usize, block: u8, flag: u8) -> usize
     ensures { λ r. ⌜ r ≡ blocksEnd payload block flag ⌝ }
 {
-    if fixed::is_variable(block) {
-        return layout::area_length(payload, flag);
+    if line::fixed::is_variable(block) {
+        return line::layout::area_length(payload, flag);
     }
-    let places = fixed::places_of(payload, block) as usize;
-    let size = fixed::size_of(block) as usize;
+    let places = line::fixed::places_of(payload, block) as usize;
+    let size = line::fixed::size_of(block) as usize;
     places * size
 }
 
@@ -63,7 +59,7 @@ pub fn blocks_end(payload: usize, block: u8, flag: u8) -> usize
 fn is_off(block: u8, q: u16) -> bool
     ensures { λ r. ⌜ r ≡ offGrid block q ⌝ }
 {
-    let size = fixed::size_of(block);
+    let size = line::fixed::size_of(block);
     if size == 0 {
         return true;
     }
@@ -79,7 +75,7 @@ pub fn is_misplaced(payload: usize, block: u8, flag: u8, place: Place) -> bool
         Place::At(q) => {
             let beyond = blocks_end(payload, block, flag) < q as usize;
             let off = is_off(block, q);
-            beyond | (!fixed::is_variable(block) & off)
+            beyond | (!line::fixed::is_variable(block) & off)
         }
     }
 }
@@ -91,11 +87,11 @@ pub fn is_impossible(system: u8, last: Last, t: Settings, place: Place, busy: bo
     match last {
         Last::Unknown => busy | is_at(place),
         Last::Number(x) => {
-            let s = systems::system_of(system);
+            let s = line::systems::system_of(system);
             let number = !((1 <= x) & (x <= s.lines));
-            let fault = settings::settings_fault(system, t);
+            let fault = line::settings::settings_fault(system, t);
             let off = is_misplaced(s.payload, t.block, t.flag, place);
-            number | ((fault != 0) | (off | (busy & !fixed::is_variable(t.block))))
+            number | ((fault != 0) | (off | (busy & !line::fixed::is_variable(t.block))))
         }
     }
 }

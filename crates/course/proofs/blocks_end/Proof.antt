@@ -1,14 +1,14 @@
--- `line::course::blocks_end` meets its contract. Assumes nothing.
+-- `course::blocks_end` meets its contract. Assumes nothing.
 use mathlib.Core.Path.{_≡_, sym, ap, ap₂, _∙_}
 use borrow.Author.Tests.{eq-eqb, ne-eqb, lt-ltb, le-ltb}
 use Rattle.lists.proofs.Tests.{pick-true, pick-false}
 use Prim.Native.Nat.{ℕ, _*_, _^_, _<_}
 use native.Mathlib.Omega.{arith}
-use Rattle.line.specs.Course.{blocksEnd}
+use Rattle.course.specs.Course.{blocksEnd}
 use Rattle.line.proofs.FixedLaws.{product-lt}
 use borrow.Author.Needs.{needs}
-use Rattle.line.proofs.course.blocks_end.Statement.{statement}
-use Rattle.line.proofs.course.blocks_end.Tie as tie
+use Rattle.course.proofs.blocks_end.Statement.{statement}
+use Rattle.course.proofs.blocks_end.Tie as tie
 
 is-variable-requires : tie.Need-is-variable-requires
 is-variable-requires c κs = search needs

@@ -1,14 +1,14 @@
--- `line::course::is_impossible` meets its contract. Assumes nothing.
+-- `course::is_impossible` meets its contract. Assumes nothing.
 use mathlib.Core.Path.{sym, ap, ap₂, _∙_}
 use Prim.Native.Nat.{ℕ}
 use mathlib.Core.Bool.{Bool, _&&_, _||_, not}
 use lib.Dec.{eqb, leb}
-use Rattle.line.specs.declared.course.Last.{Last}
+use Rattle.course.specs.declared.Last.{Last}
 use Rattle.line.specs.declared.systems.System.{System}
-use Rattle.line.specs.Course.{misplaced, impossibleAfter}
+use Rattle.course.specs.Course.{misplaced, impossibleAfter}
 use borrow.Author.Needs.{needs}
-use Rattle.line.proofs.course.is_impossible.Statement.{statement}
-use Rattle.line.proofs.course.is_impossible.Tie as tie
+use Rattle.course.proofs.is_impossible.Statement.{statement}
+use Rattle.course.proofs.is_impossible.Tie as tie
 
 enum-told : tie.Need-enum-told
 enum-told c = search needs

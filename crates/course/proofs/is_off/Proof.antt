@@ -1,16 +1,16 @@
--- `line::course::is_off` meets its contract. Assumes nothing.
+-- `course::is_off` meets its contract. Assumes nothing.
 use mathlib.Core.Path.{_≡_, sym, ap, ap₂, _∙_}
 use borrow.Author.Tests.{eq-eqb, ne-eqb, lt-ltb, le-ltb}
 use Rattle.lists.proofs.Tests.{pick-true, pick-false}
 use Prim.Native.Nat.{ℕ, _%_}
 use mathlib.Core.Bool.{_||_, not}
 use lib.Dec.{eqb}
-use Rattle.line.specs.Course.{offGrid}
+use Rattle.course.specs.Course.{offGrid}
 use Rattle.line.specs.Fixed.{sizeOf}
-use Rattle.line.proofs.CourseLaws.{off-none, off-some}
+use Rattle.course.proofs.CourseLaws.{off-none, off-some}
 use borrow.Author.Needs.{needs}
-use Rattle.line.proofs.course.is_off.Statement.{statement}
-use Rattle.line.proofs.course.is_off.Tie as tie
+use Rattle.course.proofs.is_off.Statement.{statement}
+use Rattle.course.proofs.is_off.Tie as tie
 
 size-of-requires : tie.Need-size-of-requires
 size-of-requires c κs = search needs

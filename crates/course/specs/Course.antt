@@ -5,15 +5,15 @@ use mathlib.Core.Bool.{Bool, true, false, _&&_, _||_, not}
 use mathlib.Core.List.{[]}
 use lib.Dec.{eqb, leb, ltb}
 use Rattle.lists.specs.Tests.{pick}
 use Rattle.line.specs.declared.settings.Settings.{Settings}
-use Rattle.line.specs.declared.course.Last.{Last}
-use Rattle.line.specs.declared.course.Last.the-variants.{Unknown, Number}
-use Rattle.line.specs.declared.course.Place.{Place}
-use Rattle.line.specs.declared.course.Place.the-variants.{Shut, At}
+use Rattle.course.specs.declared.Last.{Last}
+use Rattle.course.specs.declared.Last.the-variants.{Unknown, Number}
+use Rattle.course.specs.declared.Place.{Place}
+use Rattle.course.specs.declared.Place.the-variants.{Shut, At}
 use Rattle.line.specs.Systems.{systemOf}
 use Rattle.line.specs.Fixed.{isVariable, placesOf, sizeOf}
 use Rattle.line.specs.Settings.{settingsFault}
 use Rattle.line.specs.Layout.{areaLength}
 
 -- the number after N is 1
 unfoldable pub nextNumber : ℕ → ℕ → ℕ
