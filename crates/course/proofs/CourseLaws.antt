@@ -1,13 +1,28 @@
--- Laws of a course of lines: places of fixed lines, and where blocks end.
+-- Laws of a course of lines: where blocks end, places of fixed and variable lines, and what a possible course has.
 -- Assumes nothing.
-use mathlib.Core.Path.{_≡_, sym, ap, _∙_}
-use mathlib.Core.Bool.{Bool, true, _||_, not}
-use Prim.Native.Nat.{ℕ, _%_}
-use lib.Dec.{eqb}
-use borrow.Author.Tests.{eq-eqb, ne-eqb}
-use Rattle.line.specs.Fixed.{sizeOf}
-use Rattle.course.specs.Course.{offGrid}
+use mathlib.Core.Path.{_≡_, refl, sym, ap, ap₂, _∙_, subst}
+use mathlib.Core.Bool.{Bool, true, false, _&&_, _||_, not}
+use Prim.Native.Nat.{ℕ, suc, _+_, _*_, _/_, _%_, _≤_, _<_}
+use native.Mathlib.Nat.{zero-mod, mod-add-div', add-mul-mod-self-right, suc-mul, mul-le-mul-right, lt-of-mul-lt-mul-right}
+use native.Mathlib.Omega.{arith}
+use lib.Dec.{eqb, leb, ltb}
+use borrow.Author.Tests.{eqb-true, eq-eqb, ne-eqb, le-ltb, not-false}
+use Rattle.lists.specs.Tests.{pick}
+use Rattle.lists.proofs.Tests.{true-false, or-false, false-or, pick-false}
+use Rattle.line.specs.declared.settings.Settings.{Settings}
+use Rattle.line.specs.Systems.{systemOf, isSystem}
+use Rattle.line.specs.Fixed.{isVariable, placesOf, sizeOf, fillsAll, blockRefused}
+use Rattle.line.specs.Settings.{settingsFault}
+use Rattle.line.specs.Layout.{areaLength}
+use Rattle.line.proofs.FixedLaws.{places-in-area, size-some}
+use Rattle.line.proofs.SettingsLaws.{block-passes}
+use Rattle.course.specs.declared.Last.{Last}
+use Rattle.course.specs.declared.Last.the-variants.{Unknown, Number}
+use Rattle.course.specs.declared.Place.{Place}
+use Rattle.course.specs.declared.Place.the-variants.{Shut, At}
+use Rattle.course.specs.Course.{isAt, placeOf, blocksEnd, offGrid, misplaced, impossibleAfter}
 
+-- ---- on the grid or not
 pub off-none : (block q : ℕ) → sizeOf block ≡ 0 → offGrid block q ≡ true
 unfolding offGrid
 off-none block q e = ap (λ (b : Bool). b || not (eqb (q % sizeOf block) 0)) (eq-eqb (sizeOf block) 0 e)
@@ -17,3 +32,104 @@ unfolding offGrid
 off-some block q size e h =
     ap (λ (s : ℕ). not (eqb (q % s) 0)) e
     ∙ sym (ap (λ (b : Bool). b || not (eqb (q % sizeOf block) 0)) (ne-eqb (sizeOf block) 0 (λ z. h (e ∙ z))))
+
+on-grid : (block q : ℕ) → offGrid block q ≡ false → q % sizeOf block ≡ 0
+unfolding offGrid
+on-grid block q e = eqb-true _ _ (not-false _ (or-false (eqb (sizeOf block) 0) _ e .1))
+
+-- ---- where blocks end: in the area
+ends-fixed : (p block flag : ℕ) → isVariable block ≡ false → blocksEnd p block flag ≡ placesOf p block * sizeOf block
+unfolding blocksEnd
+ends-fixed p block flag v = pick-false _ _ v
+
+pub end-in-area : (system : ℕ) (t : Settings) → isSystem system ≡ true → settingsFault system t ≡ 0
+    → blocksEnd (systemOf system .payload) (t .block) (t .flag) ≤ areaLength (systemOf system .payload) (t .flag)
+unfolding blocksEnd pick
+end-in-area system t known e = go (isVariable (t .block)) refl
+  where
+    go : (b : Bool) → isVariable (t .block) ≡ b
+        → pick b (areaLength (systemOf system .payload) (t .flag)) (placesOf (systemOf system .payload) (t .block) * sizeOf (t .block))
+        ≤ areaLength (systemOf system .payload) (t .flag)
+    go true v = omega arith
+    go false v = places-in-area system known (t .block) (t .flag) v (block-passes system t e)
+
+-- ---- places
+-- a line that is begun is begun at its place
+pub at-place : (place : Place) → isAt place ≡ true → place ≡ At (placeOf place)
+at-place Shut e = absurd (true-false (sym e))
+at-place (At q) e = refl
+
+-- a line starts at a place
+start-by : (v a z c g : Bool) → (not v && (a || (z || c))) ≡ false → (z ≡ false → g ≡ false) → (not v && g) ≡ false
+start-by true a z c g e h = refl
+start-by false a z c g e h = h (or-false z c (or-false a (z || c) e .1) .0)
+
+pub start-placed : (system : ℕ) (t : Settings) → settingsFault system t ≡ 0 → misplaced (systemOf system .payload) (t .block) (t .flag) (At 0) ≡ false
+unfolding blockRefused offGrid
+start-placed system t clean =
+    let p = systemOf system .payload in
+    false-or (le-ltb (blocksEnd p (t .block) (t .flag)) 0 (omega arith))
+    (start-by (isVariable (t .block)) (leb 128 (t .block)) _ (eqb (t .flag) 1 && fillsAll p (t .block)) (offGrid (t .block) 0) (block-passes system t clean)
+    (λ z. false-or (size-some p (t .block) z) (ap not (eq-eqb (0 % sizeOf (t .block)) 0 (zero-mod (sizeOf (t .block)))))))
+
+-- a variable line: every word up to the end
+pub variable-placed : (p block flag q : ℕ) → isVariable block ≡ true → q ≤ blocksEnd p block flag → misplaced p block flag (At q) ≡ false
+variable-placed p block flag q v h = false-or (le-ltb (blocksEnd p block flag) q h) (ap (λ (b : Bool). not b && offGrid block q) v)
+
+-- a fixed line: a place stands on the grid
+grid-by : (a v g : Bool) → v ≡ false → (a || (not v && g)) ≡ false → g ≡ false
+grid-by a true g v e = absurd (true-false v)
+grid-by a false g v e = or-false a g e .1
+
+pub placed-grid : (p block flag q : ℕ) → isVariable block ≡ false → misplaced p block flag (At q) ≡ false → offGrid block q ≡ false
+placed-grid p block flag q v e = grid-by (ltb (blocksEnd p block flag) q) (isVariable block) (offGrid block q) v e
+
+-- so does the k-th after it
+grid-after : (block q k : ℕ) → offGrid block q ≡ false → offGrid block (q + k * sizeOf block) ≡ false
+unfolding offGrid
+grid-after block q k e =
+    let a = or-false (eqb (sizeOf block) 0) _ e in
+    false-or (a .0) (ap (λ (x : ℕ). not (eqb x 0)) (add-mul-mod-self-right q k (sizeOf block)) ∙ a .1)
+
+pub grid-next : (p block flag q k : ℕ) → isVariable block ≡ false → misplaced p block flag (At q) ≡ false → q + k * sizeOf block ≤ blocksEnd p block flag
+    → misplaced p block flag (At (q + k * sizeOf block)) ≡ false
+grid-next p block flag q k v e h =
+    false-or (le-ltb (blocksEnd p block flag) (q + k * sizeOf block) h)
+    (ap₂ (λ (b c : Bool). not b && c) v (grid-after block q k (placed-grid p block flag q v e)))
+
+-- and before the end there is a whole place
+whole-place : (s n q : ℕ) → q % s ≡ 0 → q < n * s → q + s ≤ n * s
+whole-place s n q e h =
+    let d : q / s * s ≡ q = omega (arith, mod-add-div' q s, e) in
+    let l : q / s < n = lt-of-mul-lt-mul-right s (subst (λ (x : ℕ). x < n * s) (sym d) h) in
+    let m : suc (q / s) * s ≤ n * s = mul-le-mul-right s l in
+    omega (arith, m, suc-mul (q / s) s, d)
+
+pub grid-room : (p block flag q : ℕ) → isVariable block ≡ false → misplaced p block flag (At q) ≡ false → q < blocksEnd p block flag
+    → q + sizeOf block ≤ blocksEnd p block flag
+grid-room p block flag q v e h =
+    let n = ends-fixed p block flag v in
+    subst (λ (x : ℕ). q + sizeOf block ≤ x) (sym n)
+    (whole-place (sizeOf block) (placesOf p block) q (on-grid block q (placed-grid p block flag q v e)) (subst (λ (x : ℕ). q < x) n h))
+
+-- ---- what a possible course has with a line begun or an open block
+pub record Begun (system : ℕ) (last : Last) (t : Settings) (place : Place) (busy : Bool) : Type 0 where
+  pub number : ℕ
+  pub numbered : last ≡ Number number
+  pub range : not (leb 1 number && leb number (systemOf system .lines)) ≡ false
+  pub clean : not (eqb (settingsFault system t) 0) ≡ false
+  pub placed : misplaced (systemOf system .payload) (t .block) (t .flag) place ≡ false
+  pub varied : (busy && not (isVariable (t .block))) ≡ false
+
+pub begun : (system : ℕ) (last : Last) (t : Settings) (place : Place) (busy : Bool) → impossibleAfter system last t place busy ≡ false → (busy || isAt place) ≡ true
+    → Begun system last t place busy
+begun system Unknown t place busy e o = absurd (true-false (sym o ∙ e))
+begun system (Number x) t place busy e o =
+    let a = or-false _ _ e in
+    let b = or-false _ _ (a .1) in
+    let c = or-false _ _ (b .1) in
+    record { number = x; numbered = refl; range = a .0; clean = b .0; placed = c .0; varied = c .1 }
+
+pub begun-possible : (system : ℕ) (last : Last) (t : Settings) (place : Place) (busy : Bool) → Begun system last t place busy → impossibleAfter system last t place busy ≡ false
+begun-possible system last t place busy b =
+    ap (λ (l : Last). impossibleAfter system l t place busy) (b .numbered) ∙ false-or (b .range) (false-or (b .clean) (false-or (b .placed) (b .varied)))

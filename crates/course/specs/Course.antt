@@ -2,7 +2,6 @@
 -- Assumes nothing.
 use Prim.Native.Nat.{ℕ, suc, _*_, _%_}
 use mathlib.Core.Bool.{Bool, true, false, _&&_, _||_, not}
-use mathlib.Core.List.{[]}
 use lib.Dec.{eqb, leb, ltb}
 use Rattle.lists.specs.Tests.{pick}
 use Rattle.line.specs.declared.settings.Settings.{Settings}

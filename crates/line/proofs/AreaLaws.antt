@@ -1,8 +1,9 @@
--- What the class of a word says of its place in an area.
+-- How long an area is, and what the class of a word says of its place in it.
 -- Assumes nothing.
 use mathlib.Core.Path.{_≡_, refl, sym, ap, _∙_, subst}
 use mathlib.Core.Bool.{Bool, true, false, _&&_, _||_, not}
-use Prim.Native.Nat.{ℕ}
+use Prim.Native.Nat.{ℕ, _-_, _≤_}
+use native.Mathlib.Omega.{arith}
 use lib.Dec.{T, eqb}
 use borrow.Author.Tests.{eqb-true}
 use Rattle.lists.specs.Tests.{pick}
@@ -11,7 +12,16 @@ use Rattle.words.specs.Class.{classOf, separator, endCode}
 use Rattle.words.specs.declared.class.Class.{Class}
 use Rattle.words.specs.declared.class.Class.the-variants.{Byte, Other, Separator, Ending, Illegal}
 use Rattle.words.proofs.FormLaws.{byte-data}
+use Rattle.line.specs.Layout.{areaLength}
 use Rattle.line.specs.Check.{legal}
+
+pub area-most : (p flag : ℕ) → areaLength p flag ≤ p
+unfolding areaLength pick
+area-most p flag = go (eqb flag 1)
+  where
+    go : (b : Bool) → pick b (p - 2) p ≤ p
+    go true = omega arith
+    go false = omega arith
 
 -- a word of each class may stand in an area, by whether the mode is 8-bit and the line variable
 abbrev pub allowed : Bool → Bool → Class → Bool

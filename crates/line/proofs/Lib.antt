@@ -1,5 +1,6 @@
 pub mod SystemLaws
 pub mod FixedLaws
+pub mod SettingsLaws
 pub mod AreaLaws
 pub mod CheckLaws
 pub mod Written

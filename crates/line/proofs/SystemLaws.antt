@@ -36,6 +36,21 @@ sound (suc (suc zero)) e = record { room = lit≤ tt; area = lit≤ tt; lines = 
 sound (suc (suc (suc zero))) e = record { room = lit≤ tt; area = lit≤ tt; lines = lit≤ tt; code = lit≤ tt }
 sound (suc (suc (suc (suc n)))) e = absurd (omega (arith, ltb-true (suc (suc (suc (suc n)))) 4 e))
 
+-- what the rows have at most, the row of no system too
+pub payload-most : (system : ℕ) → systemOf system .payload ≤ 1920
+payload-most zero = lit≤ tt
+payload-most (suc zero) = lit≤ tt
+payload-most (suc (suc zero)) = lit≤ tt
+payload-most (suc (suc (suc zero))) = lit≤ tt
+payload-most (suc (suc (suc (suc n)))) = lit≤ tt
+
+pub length-most : (system : ℕ) → systemOf system .length ≤ 2304
+length-most zero = lit≤ tt
+length-most (suc zero) = lit≤ tt
+length-most (suc (suc zero)) = lit≤ tt
+length-most (suc (suc (suc zero))) = lit≤ tt
+length-most (suc (suc (suc (suc n)))) = lit≤ tt
+
 -- what a line that fits has
 pub record Fit (system mode : ℕ) (line : List ℕ) : Type 0 where
   pub row : Sound (systemOf system)

@@ -1,18 +1,21 @@
 -- Laws of tests: a rule at every number below a bound by one computation, and the lowest number whose condition holds.
 -- Assumes nothing.
 use mathlib.Core.Path.{_≡_, refl, sym, ap, ap₂, _∙_, subst}
-use mathlib.Core.Bool.{Bool, true, false, _&&_, _||_}
+use mathlib.Core.Bool.{Bool, true, false, _&&_, _||_, not}
 use mathlib.Core.Logic.{_⊎_, inl, inr, ⊎-elim}
 use mathlib.Core.List.{List, [], _∷_, _++_}
 use Prim.Native.Nat.{ℕ, zero, suc, _+_, _<_, _≤_}
 use native.Mathlib.Nat.{le-of-suc-le-suc, not-suc-le-zero, eq-or-lt-of-le, add-zero, add-suc, suc-add}
 use native.Mathlib.Omega.{arith}
-use lib.Dec.{T, ltb}
+use lib.Dec.{T, ltb, eqb}
 use lib.ListN.{length}
-use borrow.Author.Tests.{ltb-true, ltb-false}
+use borrow.Author.Tests.{ltb-true, ltb-false, eqb-true, eqb-false}
 use Rattle.lists.specs.Tests.{pick, lowest, orNext}
 
 -- ---- two tests
+pub true-false : true ≡ false → ⊥
+true-false e = subst T e tt
+
 pub or-left : (a b : Bool) → a ≡ true → (a || b) ≡ true
 or-left true b e = refl
 or-left false b e = absurd (subst T (sym e) tt)
@@ -20,6 +23,13 @@ or-left false b e = absurd (subst T (sym e) tt)
 pub or-right : (a b : Bool) → b ≡ true → (a || b) ≡ true
 or-right true b e = refl
 or-right false b e = e
+
+pub or-false : (a b : Bool) → (a || b) ≡ false → (a ≡ false) × (b ≡ false)
+or-false true b e = absurd (true-false e)
+or-false false b e = (refl, e)
+
+pub false-or : {a b : Bool} → a ≡ false → b ≡ false → (a || b) ≡ false
+false-or p q = ap₂ _||_ p q
 
 pub both-true : (a b : Bool) → (a && b) ≡ true → (a ≡ true) × (b ≡ true)
 both-true true b e = (refl, e)
@@ -90,6 +100,22 @@ pub picked : (b : Bool) (x : ℕ) → pick b x 1 ≡ 0 → (b ≡ true) × (x �
 unfolding pick
 picked true x e = (refl, e)
 picked false x e = absurd (omega arith)
+
+-- ---- refusals in the order of their numbers
+-- no number: the first condition doesn't hold, nor does a later one
+pub passed : (n : ℕ) (b : Bool) (r : ℕ) → pick b (suc n) r ≡ 0 → (b ≡ false) × (r ≡ 0)
+unfolding pick
+passed n true r e = absurd (omega arith)
+passed n false r e = (refl, e)
+
+-- a fault that gives its own number
+own-by : (m r : ℕ) (b : Bool) → eqb m 0 ≡ b → pick (not b) m r ≡ 0 → (m ≡ 0) × (r ≡ 0)
+unfolding pick
+own-by m r true h e = (eqb-true m 0 h, e)
+own-by m r false h e = absurd (eqb-false m 0 h e)
+
+pub passed-own : (m r : ℕ) → pick (not (eqb m 0)) m r ≡ 0 → (m ≡ 0) × (r ≡ 0)
+passed-own m r e = own-by m r (eqb m 0) refl e
 
 -- ---- the lowest number whose condition holds
 abbrev pub Clear : List Bool → Type 0

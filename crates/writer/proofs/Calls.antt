@@ -31,7 +31,8 @@ use Rattle.writer.specs.Adding.{addFault, todo, room, adding}
 use Rattle.writer.specs.Closing.{closeFault, sealed, closing}
 use Rattle.writer.proofs.FillLaws.{mid-paste}
 use Rattle.writer.proofs.BlockLaws.{words-long}
-use Rattle.writer.proofs.Refusals.{count, count-between, payload-most, length-most, CanAdd, can-add}
+use Rattle.line.proofs.SystemLaws.{payload-most, length-most}
+use Rattle.writer.proofs.Refusals.{count, count-between, CanAdd, can-add}
 
 -- ---- closing
 -- the last two words stored

@@ -39,7 +39,8 @@ use Rattle.writer.specs.Course.{pieceOf, joined, Goes, Laying, ends, goe
 use Rattle.writer.proofs.Keeps.{add-leaves, add-stays}
 use Rattle.writer.proofs.Refusals.{can-open, can-add}
 use Rattle.writer.proofs.Writing.{either, piece-law}
-use Rattle.writer.proofs.Stays.{same-block, free, part-laid, fixed-whole, fixed-fits, words-variable, words-fixed}
+use Rattle.line.proofs.SettingsLaws.{same-block}
+use Rattle.writer.proofs.Stays.{free, part-laid, fixed-whole, fixed-fits, words-variable, words-fixed}
 
 -- ---- one addition
 done-or : (b : Bool) → pick b Finished Unfinished ≡ Finished → b ≡ true

@@ -1,29 +1,27 @@
 -- What a fault number 0 says, and what a possible state has.
 -- Assumes nothing.
-use mathlib.Core.Path.{_≡_, refl, sym, ap, ap₂, _∙_, subst}
+use mathlib.Core.Path.{_≡_, refl, sym, ap}
 use mathlib.Core.Bool.{Bool, true, false, _&&_, _||_, not}
 use mathlib.Core.List.{List}
-use Prim.Native.Nat.{ℕ, zero, suc, _+_, _-_, _*_, _≤_, _<_}
+use Prim.Native.Nat.{ℕ, _+_, _-_, _≤_, _<_}
 use native.Mathlib.Omega.{arith}
-use lib.Dec.{T, ltb, leb, eqb, lit≤}
+use lib.Dec.{ltb, leb, eqb}
 use lib.ListN.{length}
-use borrow.Author.Tests.{ltb-false, leb-true, leb-false, eqb-true, eqb-false, not-false}
-use Rattle.lists.specs.Tests.{pick}
-use Rattle.lists.proofs.Tests.{or-right, both-true, lowest-clear}
+use borrow.Author.Tests.{ltb-false, leb-true, leb-false, eqb-true, not-false}
+use Rattle.lists.proofs.Tests.{true-false, or-right, or-false, false-or, both-true, passed, passed-own}
 use Rattle.words.specs.Modes.{isMode}
 use Rattle.line.specs.declared.settings.Settings.{Settings}
-use Rattle.course.specs.declared.Last.{Last}
-use Rattle.course.specs.declared.Last.the-variants.{Unknown, Number}
 use Rattle.course.specs.declared.Place.{Place}
 use Rattle.course.specs.declared.Place.the-variants.{Shut, At}
 use Rattle.line.specs.Systems.{systemOf, isSystem}
-use Rattle.line.specs.Fixed.{isVariable, sizeOf, placesOf, blockRefused}
-use Rattle.line.specs.Settings.{settingsFaults, settingsFault}
-use Rattle.line.specs.Layout.{areaLength}
+use Rattle.line.specs.Fixed.{isVariable}
+use Rattle.line.specs.Settings.{settingsFault}
 use Rattle.line.specs.Check.{fitsLength}
-use Rattle.course.specs.Course.{isAt, placeOf, blocksEnd, misplaced, impossibleAfter}
+use Rattle.course.specs.Course.{isAt, placeOf, impossibleAfter}
 use Rattle.line.proofs.SystemLaws.{Sound, sound, Fit, fitting}
-use Rattle.line.proofs.FixedLaws.{places-in-area}
+use Rattle.line.proofs.AreaLaws.{area-most}
+use Rattle.course.proofs.CourseLaws as laws
+use Rattle.course.proofs.CourseLaws.{end-in-area}
 use Rattle.writer.specs.declared.state.Rest.{Rest}
 use Rattle.writer.specs.declared.state.Rest.the-variants.{Whole, Part}
 use Rattle.writer.specs.declared.state.Writer.{Writer}
@@ -33,32 +31,6 @@ use Rattle.writer.specs.Adding.{valued, illShaped, isFull, isOther, addF
 use Rattle.writer.specs.Opening.{openBlocked, openFault}
 use Rattle.writer.specs.Closing.{closeFault}
 use Rattle.writer.proofs.BlockLaws.{head-six, head-one, tail-variable, tail-fixed}
-
--- ---- refusals in the order of their numbers
--- no number: the first condition doesn't hold, nor does a later one
-pub passed : (n : ℕ) (b : Bool) (r : ℕ) → pick b (suc n) r ≡ 0 → (b ≡ false) × (r ≡ 0)
-unfolding pick
-passed n true r e = absurd (omega arith)
-passed n false r e = (refl, e)
-
--- a fault that gives its own number
-own-by : (m r : ℕ) (b : Bool) → eqb m 0 ≡ b → pick (not b) m r ≡ 0 → (m ≡ 0) × (r ≡ 0)
-unfolding pick
-own-by m r true h e = (eqb-true m 0 h, e)
-own-by m r false h e = absurd (eqb-false m 0 h e)
-
-pub passed-own : (m r : ℕ) → pick (not (eqb m 0)) m r ≡ 0 → (m ≡ 0) × (r ≡ 0)
-passed-own m r e = own-by m r (eqb m 0) refl e
-
-true-false : true ≡ false → ⊥
-true-false e = subst T e tt
-
-pub or-false : (a b : Bool) → (a || b) ≡ false → (a ≡ false) × (b ≡ false)
-or-false true b e = absurd (true-false e)
-or-false false b e = (refl, e)
-
-pub false-or : {a b : Bool} → a ≡ false → b ≡ false → (a || b) ≡ false
-false-or p q = ap₂ _||_ p q
 
 -- ---- 1, 18, 19
 fit-of : (w : Writer) (line : List ℕ) → not (fitsLength (w .system) (w .mode) (length line)) ≡ false → (isSystem (w .system) ≡ true) × Fit (w .system) (w .mode) line
@@ -80,50 +52,18 @@ room-of-place end (At p) o e = leb-false end p e
 
 -- ---- what a possible state holds with a line or a block begun
 pub record Begun (w : Writer) : Type 0 where
-  pub number : ℕ
-  pub last : w .last ≡ Number number
-  pub range : not (leb 1 number && leb number (systemOf (w .system) .lines)) ≡ false
-  pub clean : not (eqb (settingsFault (w .system) (w .settings)) 0) ≡ false
-  pub placed : misplaced (systemOf (w .system) .payload) (w .settings .block) (w .settings .flag) (w .place) ≡ false
-  pub varied : (isPart (w .rest) && not (isVariable (w .settings .block))) ≡ false
+  pub course : laws.Begun (w .system) (w .last) (w .settings) (w .place) (isPart (w .rest))
   pub shaped : misshapen (w .rest) ≡ false
 
 pub begun : (w : Writer) → impossible w ≡ false → (isPart (w .rest) || isAt (w .place)) ≡ true → Begun w
 unfolding impossible
-begun w e o = go (w .last) refl (or-false _ (misshapen (w .rest)) e)
-  where
-    go : (l : Last) → w .last ≡ l
-        → (impossibleAfter (w .system) l (w .settings) (w .place) (isPart (w .rest)) ≡ false) × (misshapen (w .rest) ≡ false) → Begun w
-    go Unknown is h = absurd (subst T (sym o ∙ h .0) tt)
-    go (Number x) is h =
-        let a = or-false _ _ (h .0) in
-        let b = or-false _ _ (a .1) in
-        let c = or-false _ _ (b .1) in
-        record { number = x; last = is; range = a .0; clean = b .0; placed = c .0; varied = c .1; shaped = h .1 }
+begun w e o =
+    let h = or-false (impossibleAfter (w .system) (w .last) (w .settings) (w .place) (isPart (w .rest))) (misshapen (w .rest)) e in
+    record { course = laws.begun (w .system) (w .last) (w .settings) (w .place) (isPart (w .rest)) (h .0) o; shaped = h .1 }
 
-block-passes : (system : ℕ) (t : Settings) → settingsFault system t ≡ 0 → blockRefused (systemOf system .payload) (t .block) (t .flag) ≡ false
-unfolding settingsFault settingsFaults
-block-passes system t e = lowest-clear 9 (settingsFaults (systemOf system) t) e .1 .1 .0
-
-pub area-most : (p flag : ℕ) → areaLength p flag ≤ p
-unfolding areaLength pick
-area-most p flag = go (eqb flag 1)
-  where
-    go : (b : Bool) → pick b (p - 2) p ≤ p
-    go true = omega arith
-    go false = omega arith
-
--- blocks end in the area
-pub end-in-area : (system : ℕ) (t : Settings) → isSystem system ≡ true → settingsFault system t ≡ 0
-    → blocksEnd (systemOf system .payload) (t .block) (t .flag) ≤ areaLength (systemOf system .payload) (t .flag)
-unfolding blocksEnd pick
-end-in-area system t known e = go (isVariable (t .block)) refl
-  where
-    go : (b : Bool) → isVariable (t .block) ≡ b
-        → pick b (areaLength (systemOf system .payload) (t .flag)) (placesOf (systemOf system .payload) (t .block) * sizeOf (t .block))
-        ≤ areaLength (systemOf system .payload) (t .flag)
-    go true v = omega arith
-    go false v = places-in-area system known (t .block) (t .flag) v (block-passes system t e)
+pub possible-by : (w : Writer) → Begun w → impossible w ≡ false
+unfolding impossible
+possible-by w b = false-or (laws.begun-possible (w .system) (w .last) (w .settings) (w .place) (isPart (w .rest)) (b .course)) (b .shaped)
 
 -- ---- how many words a block has
 abbrev pub count : ℕ → ℕ → ℕ
@@ -151,21 +91,6 @@ laid-below block (Part k c j) kind n v m o =
     let b = ltb-false (c + 6) j (or-false (ltb j 1) (ltb (c + 6) j) a .1) in
     let e = eqb-true c n (both-true (eqb k kind) (eqb c n) (not-false _ o) .1) in
     rw (count-variable block n (not-false _ v)) (omega arith)
-
--- ---- what the rows of the systems have at most
-pub payload-most : (system : ℕ) → systemOf system .payload ≤ 1920
-payload-most zero = lit≤ tt
-payload-most (suc zero) = lit≤ tt
-payload-most (suc (suc zero)) = lit≤ tt
-payload-most (suc (suc (suc zero))) = lit≤ tt
-payload-most (suc (suc (suc (suc n)))) = lit≤ tt
-
-pub length-most : (system : ℕ) → systemOf system .length ≤ 2304
-length-most zero = lit≤ tt
-length-most (suc zero) = lit≤ tt
-length-most (suc (suc zero)) = lit≤ tt
-length-most (suc (suc (suc zero))) = lit≤ tt
-length-most (suc (suc (suc (suc n)))) = lit≤ tt
 
 -- ---- what an accepted opening finds
 pub record CanOpen (w : Writer) (n : ℕ) (t : Settings) (long : ℕ) : Type 0 where
@@ -230,7 +155,7 @@ can-add w line kind vs e =
     let s = shape-of (w .place) block kind n (c18 .0) in
     let h = begun w (c2 .0) (or-right (isPart (w .rest)) (isAt (w .place)) at) in
     let area = area-most (systemOf (w .system) .payload) (w .settings .flag) in
-    let end = end-in-area (w .system) (w .settings) (f .0) (eqb-true _ 0 (not-false _ (h .clean))) in
+    let end = end-in-area (w .system) (w .settings) (f .0) (eqb-true _ 0 (not-false _ (h .course .clean))) in
     record {
       fit = f .1;
       state = c2 .0;
@@ -242,7 +167,7 @@ can-add w line kind vs e =
       room = room-of-place (endIn w) (w .place) at (c19 .0);
       end = omega (arith, area, end);
       same = o .1;
-      left = laid-below block (w .rest) kind n (h .varied) (h .shaped) (o .1);
+      left = laid-below block (w .rest) kind n (h .course .varied) (h .shaped) (o .1);
     }
 
 -- ---- what an accepted closing finds

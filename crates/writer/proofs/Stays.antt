@@ -4,26 +4,25 @@ use mathlib.Core.Path.{_≡_, refl, sym, ap, ap₂, _∙_, subst}
 use mathlib.Core.Bool.{Bool, true, false, _&&_, _||_, not}
 use mathlib.Core.List.{List, [], _∷_, map}
 use mathlib.Core.Logic.{_⊎_, inl, inr, ⊎-elim}
-use Prim.Native.Nat.{ℕ, suc, _+_, _-_, _*_, _/_, _%_, _≤_, _<_, min}
-use native.Mathlib.Nat.{mod-add-div', add-mod-right, zero-mod, suc-mul, mul-le-mul-right, lt-of-mul-lt-mul-right}
+use Prim.Native.Nat.{ℕ, suc, _+_, _-_, _*_, _≤_, _<_, min}
+use native.Mathlib.Nat.{one-mul}
 use native.Mathlib.Omega.{arith}
-use lib.Dec.{T, eqb, leb, ltb}
+use lib.Dec.{T, eqb, ltb}
 use lib.ListN.{length, getD, drop, length-append, length-drop, length-map}
 use borrow.Author.Tests.{eqb-true, eqb-false, eq-eqb, le-leb, le-ltb, ltb-false, not-false}
 use Rattle.lists.specs.Tests.{pick, lowest}
-use Rattle.lists.specs.Lists.{same}
-use Rattle.lists.proofs.Tests.{or-left, or-right, all, both-true, and-true, pick-true, pick-false, lowest-clear}
+use Rattle.lists.proofs.Tests.{or-left, or-right, or-false, false-or, both-true, and-true, pick-true, pick-false}
 use Rattle.words.specs.Modes.{wordOf}
 use Rattle.words.specs.Class.{endCode}
 use Rattle.line.specs.declared.settings.Settings.{Settings}
-use Rattle.course.specs.declared.Last.{Last}
 use Rattle.course.specs.declared.Place.{Place}
 use Rattle.course.specs.declared.Place.the-variants.{Shut, At}
 use Rattle.line.specs.Systems.{systemOf}
-use Rattle.line.specs.Fixed.{placesOf, sizeOf, fillsAll, isVariable, blockRefused}
+use Rattle.line.specs.Fixed.{sizeOf, isVariable}
 use Rattle.line.specs.Settings.{settingsFault, settingsFaults, sameSettings}
-use Rattle.line.proofs.FixedLaws.{size-some}
-use Rattle.course.specs.Course.{isAt, placeOf, blocksEnd, offGrid, misplaced, impossibleAfter}
+use Rattle.line.proofs.SettingsLaws.{same-block}
+use Rattle.course.specs.Course.{isAt, placeOf, misplaced, impossibleAfter}
+use Rattle.course.proofs.CourseLaws.{at-place, start-placed, variable-placed, grid-next, grid-room}
 use Rattle.writer.specs.declared.state.Rest.{Rest}
 use Rattle.writer.specs.declared.state.Rest.the-variants.{Whole, Part}
 use Rattle.writer.specs.declared.state.Writer.{Writer}
@@ -37,43 +36,16 @@ use Rattle.writer.specs.Answers.{answerNumbers, laidNumbers, left, Added
 use Rattle.writer.specs.Opening.{openBlocked, openFault, openState, opening}
 use Rattle.writer.specs.Adding.{illShaped, isOther, addFault, todo, room, lay, adding}
 use Rattle.writer.specs.Closing.{closeFault, closing}
-use Rattle.writer.proofs.Refusals.{Begun, begun, or-false, false-or, can-open, CanAdd, can-add, can-close}
-
-possible-by : (w : Writer) → Begun w → impossible w ≡ false
-unfolding impossible
-possible-by w b =
-    ap (λ (l : Last). impossibleAfter (w .system) l (w .settings) (w .place) (isPart (w .rest)) || misshapen (w .rest)) (b .last)
-    ∙ false-or (false-or (b .range) (false-or (b .clean) (false-or (b .placed) (b .varied)))) (b .shaped)
+use Rattle.writer.proofs.Refusals.{Begun, begun, possible-by, can-open, CanAdd, can-add, can-close}
 
 -- another place and rest in a line that is begun
 moved-begun : (w : Writer) (p : Place) (r : Rest) → Begun w → misplaced (systemOf (w .system) .payload) (w .settings .block) (w .settings .flag) p ≡ false
     → (isPart r && not (isVariable (w .settings .block))) ≡ false → misshapen r ≡ false → Begun (moved w p r)
-moved-begun w p r b x y z = record { number = b .number; last = b .last; range = b .range; clean = b .clean; placed = x; varied = y; shaped = z }
-
--- ---- a fixed line: a first place is on the grid
-start-by : (v a z c g : Bool) → (not v && (a || (z || c))) ≡ false → (z ≡ false → g ≡ false) → (not v && g) ≡ false
-start-by true a z c g e h = refl
-start-by false a z c g e h = h (or-false z c (or-false a (z || c) e .1) .0)
-
-start-placed : (system : ℕ) (t : Settings) → settingsFault system t ≡ 0 → misplaced (systemOf system .payload) (t .block) (t .flag) (At 0) ≡ false
-unfolding settingsFault settingsFaults blockRefused offGrid
-start-placed system t clean =
-    let k = lowest-clear 9 (settingsFaults (systemOf system) t) clean in
-    let p = systemOf system .payload in
-    false-or (le-ltb (blocksEnd p (t .block) (t .flag)) 0 (omega arith))
-    (start-by (isVariable (t .block)) (leb 128 (t .block)) _ (eqb (t .flag) 1 && fillsAll p (t .block)) (offGrid (t .block) 0) (k .1 .1 .0)
-    (λ z. false-or (size-some p (t .block) z) (ap not (eq-eqb (0 % sizeOf (t .block)) 0 (zero-mod (sizeOf (t .block)))))))
+moved-begun w p r b x y z =
+    let c = b .course in
+    record { course = record { number = c .number; numbered = c .numbered; range = c .range; clean = c .clean; placed = x; varied = y }; shaped = z }
 
 -- ---- opening: an unfinished block stays, with the same settings
-pub same-block : (t u : Settings) → sameSettings t u ≡ true → t .block ≡ u .block
-unfolding sameSettings
-same-block t u e =
-    let a = both-true (eqb (t .code) (u .code)) _ e .1 in
-    let b = both-true (eqb (t .aai) (u .aai)) _ a .1 in
-    let c = both-true (same (t .destination) (u .destination)) _ b .1 in
-    let d = both-true (same (t .source) (u .source)) _ c .1 in
-    eqb-true _ _ (both-true (eqb (t .block) (u .block)) (eqb (t .flag) (u .flag) && same (t .reserved) (u .reserved)) d .0)
-
 rest-of : (w : Writer) → impossible w ≡ false → misshapen (w .rest) ≡ false
 unfolding impossible
 rest-of w e = or-false (impossibleAfter (w .system) (w .last) (w .settings) (w .place) (isPart (w .rest))) (misshapen (w .rest)) e .1
@@ -83,19 +55,22 @@ varied-by : (w : Writer) (t : Settings) (b c d : Bool) → isPart (w .rest) ≡ 
 varied-by w t false c d is e h z = ap (λ (x : Bool). x && not (isVariable (t .block))) is
 varied-by w t true false d is e h z = absurd (subst T z tt)
 varied-by w t true true d is e h z =
-    ap (λ (x : ℕ). isPart (w .rest) && not (isVariable x)) (same-block t (w .settings) h) ∙ begun w e (or-left (isPart (w .rest)) (isAt (w .place)) is) .varied
+    ap (λ (x : ℕ). isPart (w .rest) && not (isVariable x)) (same-block t (w .settings) h) ∙ begun w e (or-left (isPart (w .rest)) (isAt (w .place)) is) .course .varied
 
 open-begun : (w : Writer) (n : ℕ) (t : Settings) (long : ℕ) → openFault w n t long ≡ 0 → Begun (openState w n t)
 unfolding openBlocked
 open-begun w n t long ok =
     let o = can-open w n t long ok in
     record {
-      number = n;
-      last = refl;
-      range = ap not (and-true (le-leb 1 n (o .one)) (le-leb n _ (o .last)));
-      clean = ap not (eq-eqb _ _ (o .clean));
-      placed = start-placed (w .system) t (o .clean);
-      varied = varied-by w t (isPart (w .rest)) (sameSettings t (w .settings)) _ refl (o .state) refl (or-false (isAt (w .place)) _ (o .free) .1);
+      course =
+          record {
+            number = n;
+            numbered = refl;
+            range = ap not (and-true (le-leb 1 n (o .one)) (le-leb n _ (o .last)));
+            clean = ap not (eq-eqb _ _ (o .clean));
+            placed = start-placed (w .system) t (o .clean);
+            varied = varied-by w t (isPart (w .rest)) (sameSettings t (w .settings)) _ refl (o .state) refl (or-false (isAt (w .place)) _ (o .free) .1);
+          };
       shaped = rest-of w (o .state);
     }
 
@@ -119,7 +94,7 @@ close-possible w line e =
     (λ h.
     let c = can-close w line (eqb-true _ _ h) in
     let b = begun w e (or-right (isPart (w .rest)) (isAt (w .place)) (c .begun)) in
-    possible-by (moved w Shut (w .rest)) (moved-begun w Shut (w .rest) b refl (b .varied) (b .shaped)))
+    possible-by (moved w Shut (w .rest)) (moved-begun w Shut (w .rest) b refl (b .course .varied) (b .shaped)))
 
 -- ---- a fresh writer
 pub fresh-possible : (system mode : ℕ) → impossible (fresh system mode) ≡ false
@@ -199,36 +174,6 @@ whole-by Whole v e h = refl
 whole-by (Part k m j) true e h = absurd (subst T h tt)
 whole-by (Part k m j) false e h = absurd (subst T e tt)
 
--- a place of a fixed line stands on the grid, and the next one is whole
-grid-by : (a v g : Bool) → v ≡ false → (a || (not v && g)) ≡ false → g ≡ false
-grid-by a true g v e = absurd (subst T v tt)
-grid-by a false g v e = or-false a g e .1
-
-placed-grid : (p block flag : ℕ) (pl : Place) → isAt pl ≡ true → isVariable block ≡ false → misplaced p block flag pl ≡ false → offGrid block (placeOf pl) ≡ false
-placed-grid p block flag Shut o v e = absurd (subst T (sym o) tt)
-placed-grid p block flag (At q) o v e = grid-by (ltb (blocksEnd p block flag) q) (isVariable block) (offGrid block q) v e
-
-next-place : (s q p : ℕ) → p % s ≡ 0 → p < q * s → p + s ≤ q * s
-next-place s q p e h =
-    let d : p / s * s ≡ p = omega (arith, mod-add-div' p s, e) in
-    let l : p / s < q = lt-of-mul-lt-mul-right s (subst (λ (x : ℕ). x < q * s) (sym d) h) in
-    let m : suc (p / s) * s ≤ q * s = mul-le-mul-right s l in
-    omega (arith, m, suc-mul (p / s) s, d)
-
-next-grid : (block q : ℕ) → offGrid block q ≡ false → offGrid block (q + sizeOf block) ≡ false
-unfolding offGrid
-next-grid block q e =
-    let a = or-false (eqb (sizeOf block) 0) _ e in
-    false-or (a .0) (ap (λ (x : ℕ). not (eqb x 0)) (add-mod-right q (sizeOf block)) ∙ a .1)
-
-ends-fixed : (p block flag : ℕ) → isVariable block ≡ false → blocksEnd p block flag ≡ placesOf p block * sizeOf block
-unfolding blocksEnd
-ends-fixed p block flag v = pick-false _ _ v
-
-on-grid : (block q : ℕ) → offGrid block q ≡ false → q % sizeOf block ≡ 0
-unfolding offGrid
-on-grid block q e = eqb-true _ _ (not-false _ (or-false (eqb (sizeOf block) 0) _ e .1))
-
 -- an unfinished block: 1 to n+6 words laid
 part-range : (end p long n j k : ℕ) → p < end → long ≡ n + 7 - j → j ≤ n + 6 → k ≡ min (end - p) long → (k ≡ long → ⊥) → (1 ≤ j + k) × (j + k ≤ n + 6)
 part-range end p long n j k a b c d e = (omega arith, omega arith)
@@ -279,14 +224,14 @@ module _ (w : Writer) (line : List ℕ) (kind : ℕ) (vs : List ℕ) (ok : addFa
 
   variable-after : isVariable (w .settings .block) ≡ true → Begun (moved w (At (placeOf (w .place) + k)) rest′)
   variable-after v =
-      moved-begun w _ rest′ at-adding (false-or (le-ltb (endIn w) (placeOf (w .place) + k) (let f = free in omega arith)) (ap (λ (b : Bool). not b && offGrid block (placeOf (w .place) + k)) v))
+      moved-begun w _ rest′ at-adding (variable-placed (systemOf (w .system) .payload) block (w .settings .flag) (placeOf (w .place) + k) v (let f = free in omega arith))
       (varied-any rest′ (isVariable block) v)
       (rest-after (eqb k (length ws)) kind (length vs) (laidOf (w .rest) + k) (adds .number)
       (λ e. part-laid v (eqb-false _ _ e)))
 
   -- a fixed line: the block is laid whole, up to the next place
   pub fixed-whole : isVariable (w .settings .block) ≡ false → w .rest ≡ Whole
-  fixed-whole v = whole-by (w .rest) (isVariable block) (at-adding .varied) v
+  fixed-whole v = whole-by (w .rest) (isVariable block) (at-adding .course .varied) v
 
   fixed-size : isVariable (w .settings .block) ≡ false → length ws ≡ sizeOf block
   fixed-size v =
@@ -295,15 +240,12 @@ module _ (w : Writer) (line : List ℕ) (kind : ℕ) (vs : List ℕ) (ok : addFa
       ∙ fixed-long (w .mode) kind vs
       ∙ fixed-by (w .place) block kind (length vs) (adds .begun) v (adds .shape)
 
-  fixed-grid : isVariable (w .settings .block) ≡ false → offGrid block (placeOf (w .place)) ≡ false
-  fixed-grid v = placed-grid _ block (w .settings .flag) (w .place) (adds .begun) v (at-adding .placed)
+  at-grid : misplaced (systemOf (w .system) .payload) (w .settings .block) (w .settings .flag) (At (placeOf (w .place))) ≡ false
+  at-grid =
+      subst (λ (x : Place). misplaced (systemOf (w .system) .payload) block (w .settings .flag) x ≡ false) (at-place (w .place) (adds .begun)) (at-adding .course .placed)
 
   fixed-next : isVariable (w .settings .block) ≡ false → placeOf (w .place) + sizeOf block ≤ endIn w
-  fixed-next v =
-      let e = ends-fixed (systemOf (w .system) .payload) block (w .settings .flag) v in
-      subst (λ (x : ℕ). placeOf (w .place) + sizeOf block ≤ x) (sym e)
-      (next-place (sizeOf block) (placesOf (systemOf (w .system) .payload) block) (placeOf (w .place)) (on-grid block (placeOf (w .place)) (fixed-grid v))
-      (subst (λ (x : ℕ). placeOf (w .place) < x) e free))
+  fixed-next v = grid-room (systemOf (w .system) .payload) block (w .settings .flag) (placeOf (w .place)) v at-grid free
 
   pub fixed-fits : isVariable (w .settings .block) ≡ false → room w (todo w kind vs) ≡ length (todo w kind vs)
   fixed-fits v = let a = fixed-next v in let b = fixed-size v in omega arith
@@ -311,11 +253,13 @@ module _ (w : Writer) (line : List ℕ) (kind : ℕ) (vs : List ℕ) (ok : addFa
   fixed-after : isVariable (w .settings .block) ≡ false → Begun (moved w (At (placeOf (w .place) + k)) rest′)
   fixed-after v =
       let all = fixed-fits v in
-      let next : placeOf (w .place) + k ≡ placeOf (w .place) + sizeOf block = ap (λ (x : ℕ). placeOf (w .place) + x) (all ∙ fixed-size v) in
+      let one = one-mul (sizeOf block) in
+      let next : placeOf (w .place) + k ≡ placeOf (w .place) + 1 * sizeOf block = ap (λ (x : ℕ). placeOf (w .place) + x) (all ∙ fixed-size v ∙ sym one) in
       let whole : rest′ ≡ Whole = pick-true _ _ (eq-eqb _ _ all) in
       moved-begun w _ rest′ at-adding
       (subst (λ (x : ℕ). misplaced (systemOf (w .system) .payload) block (w .settings .flag) (At x) ≡ false) (sym next)
-      (false-or (le-ltb (endIn w) _ (fixed-next v)) (ap₂ (λ (b c : Bool). not b && c) v (next-grid block (placeOf (w .place)) (fixed-grid v)))))
+      (grid-next (systemOf (w .system) .payload) block (w .settings .flag) (placeOf (w .place)) 1 v at-grid
+      (subst (λ (x : ℕ). placeOf (w .place) + x ≤ endIn w) (sym one) (fixed-next v))))
       (ap (λ (r : Rest). isPart r && not (isVariable block)) whole)
       (ap misshapen whole)
 

@@ -8,7 +8,6 @@ use mathlib.Core.Logic.{_⊎_, inl, inr, ⊎-elim}
 use Prim.Native.Nat.{ℕ, zero, suc, _+_, _-_, _≤_}
 use native.Mathlib.Nat.{sub-zero}
 use native.Mathlib.Omega.{arith}
-use lib.Dec.{T}
 use lib.ListN.{length, take, drop, replicate, length-append, length-replicate}
 use lib.Seq.{paste, length-take-le, take-at, drop-at}
 use Rattle.lists.specs.Lists.{each}
@@ -34,7 +33,9 @@ use Rattle.writer.specs.Course.{pieceOf, joined, Filling, filled, adds, 
 use Rattle.writer.proofs.Keeps.{open-clear, open-leaves, open-keeps, close-clear, close-leaves, close-keeps, add-leaves, add-stays}
 use Rattle.writer.proofs.Framing.{front, front-length, framed-front, pasted, seals}
 use Rattle.writer.proofs.Legal.{each-take, each-drop, each-filler, filler-legal, words-legal}
-use Rattle.writer.proofs.Refusals.{CanOpen, can-open, can-add, end-in-area, area-most}
+use Rattle.line.proofs.AreaLaws.{area-most}
+use Rattle.course.proofs.CourseLaws.{end-in-area}
+use Rattle.writer.proofs.Refusals.{CanOpen, can-open, can-add}
 
 -- what holds of an open line, and of the state, while a has been laid
 pub record Open (system mode : ℕ) (f v : Bool) (n : ℕ) (t : Settings) (a : List ℕ) (w : Writer) (line : List ℕ) : Type 0 where

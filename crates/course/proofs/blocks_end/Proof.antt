@@ -1,8 +1,7 @@
 -- `course::blocks_end` meets its contract. Assumes nothing.
-use mathlib.Core.Path.{_≡_, sym, ap, ap₂, _∙_}
-use borrow.Author.Tests.{eq-eqb, ne-eqb, lt-ltb, le-ltb}
+use mathlib.Core.Path.{sym, ap₂, _∙_}
 use Rattle.lists.proofs.Tests.{pick-true, pick-false}
-use Prim.Native.Nat.{ℕ, _*_, _^_, _<_}
+use Prim.Native.Nat.{_*_, _^_, _<_}
 use native.Mathlib.Omega.{arith}
 use Rattle.course.specs.Course.{blocksEnd}
 use Rattle.line.proofs.FixedLaws.{product-lt}

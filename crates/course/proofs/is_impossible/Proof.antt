@@ -1,11 +1,8 @@
 -- `course::is_impossible` meets its contract. Assumes nothing.
-use mathlib.Core.Path.{sym, ap, ap₂, _∙_}
-use Prim.Native.Nat.{ℕ}
-use mathlib.Core.Bool.{Bool, _&&_, _||_, not}
-use lib.Dec.{eqb, leb}
+use mathlib.Core.Path.{sym, ap, _∙_}
+use mathlib.Core.Bool.{Bool, _||_}
 use Rattle.course.specs.declared.Last.{Last}
-use Rattle.line.specs.declared.systems.System.{System}
-use Rattle.course.specs.Course.{misplaced, impossibleAfter}
+use Rattle.course.specs.Course.{impossibleAfter}
 use borrow.Author.Needs.{needs}
 use Rattle.course.proofs.is_impossible.Statement.{statement}
 use Rattle.course.proofs.is_impossible.Tie as tie

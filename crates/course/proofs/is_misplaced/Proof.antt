@@ -1,10 +1,4 @@
 -- `course::is_misplaced` meets its contract. Assumes nothing.
-use mathlib.Core.Path.{sym, ap, ap₂, _∙_}
-use Prim.Native.Nat.{ℕ}
-use mathlib.Core.Bool.{Bool, _&&_, _||_, not}
-use lib.Dec.{ltb}
-use Rattle.course.specs.declared.Place.{Place}
-use Rattle.course.specs.Course.{misplaced}
 use borrow.Author.Needs.{needs}
 use Rattle.course.proofs.is_misplaced.Statement.{statement}
 use Rattle.course.proofs.is_misplaced.Tie as tie

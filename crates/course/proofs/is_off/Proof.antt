@@ -1,12 +1,5 @@
 -- `course::is_off` meets its contract. Assumes nothing.
-use mathlib.Core.Path.{_≡_, sym, ap, ap₂, _∙_}
-use borrow.Author.Tests.{eq-eqb, ne-eqb, lt-ltb, le-ltb}
-use Rattle.lists.proofs.Tests.{pick-true, pick-false}
-use Prim.Native.Nat.{ℕ, _%_}
-use mathlib.Core.Bool.{_||_, not}
-use lib.Dec.{eqb}
-use Rattle.course.specs.Course.{offGrid}
-use Rattle.line.specs.Fixed.{sizeOf}
+use mathlib.Core.Path.{sym, _∙_}
 use Rattle.course.proofs.CourseLaws.{off-none, off-some}
 use borrow.Author.Needs.{needs}
 use Rattle.course.proofs.is_off.Statement.{statement}

@@ -1,6 +1,6 @@
 -- `course::next_number` meets its contract. Assumes nothing.
-use mathlib.Core.Path.{_≡_, sym, ap, ap₂, _∙_}
-use borrow.Author.Tests.{eq-eqb, ne-eqb, lt-ltb, le-ltb}
+use mathlib.Core.Path.{sym, _∙_}
+use borrow.Author.Tests.{lt-ltb, le-ltb}
 use Rattle.lists.proofs.Tests.{pick-true, pick-false}
 use native.Mathlib.Numerals.{add-one}
 use Rattle.course.specs.Course.{nextNumber}
