@@ -27,9 +27,8 @@ find-missed (r ∷ rs) A k m =
     let rest = find-missed rs (A × (k ≡ r .bits → ⊥)) k m in
     (rest .0 .0, pick-false (r .means) (find k rs) (ne-eqb k (r .bits) (rest .0 .1)) ∙ rest .1)
 
-pub unlisted : (block : ℕ) → Missed table (Unit {0}) (block % 64) → fixedOf block ≡ fixed 0 0 0
-unfolding fixedOf
-unlisted block m = find-missed table (Unit {0}) (block % 64) m .1
+pub unlisted : (k : ℕ) → Missed table (Unit {0}) k → find k table ≡ fixed 0 0 0
+unlisted k m = find-missed table (Unit {0}) k m .1
 
 -- two numbers of 16 bits have a product of 32
 pub product-lt : {a b : ℕ} → a < 2 ^ 16 → b < 2 ^ 16 → a * b < 2 ^ 32

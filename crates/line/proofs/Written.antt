@@ -11,7 +11,8 @@ use Rattle.words.specs.Forms.{byteWord}
 use Rattle.words.specs.Checksum.{checksum}
 use Rattle.words.specs.Crc.{crcWords}
 use Rattle.line.specs.declared.settings.Settings.{Settings}
-use Rattle.line.specs.Header.{flagWords, idWords, numberWords, settingsBytes, settingsWords, summedWords, headerWords, Laid}
+use Rattle.line.specs.Header.{flagWords, idWords, numberWords, settingsBytes, settingsWords, summedWords, headerWords}
+use Rattle.line.specs.Cuts.{Laid}
 use Rattle.line.specs.Settings.{Held}
 use Rattle.lists.specs.Lists.{part}
 use Rattle.lists.proofs.Lists.{inside}

@@ -2,8 +2,6 @@
 -- Assumes nothing.
 use Prim.Native.Nat.{ℕ, _+_, _*_, _/_, _%_}
 use mathlib.Core.List.{List, [], _∷_, _++_, map}
-use mathlib.Core.Path.{_≡_}
-use lib.ListN.{length, take}
 use Rattle.words.specs.Forms.{byteWord}
 use Rattle.words.specs.Checksum.{checksum}
 use Rattle.words.specs.Crc.{crcWords}
@@ -37,8 +35,3 @@ unfoldable pub headerWords : ℕ → Settings → List ℕ
 headerWords number s =
     let summed = summedWords number s in
     flagWords ++ (summed ++ (checksum summed ∷ []))
-
--- the words ws stand in the second list behind the first a words of the first; the lengths are equal
-pub record Laid (a : ℕ) (ws before after : List ℕ) : Type 0 where
-  pub kept : length after ≡ length before
-  pub front : take (a + length ws) after ≡ take a before ++ ws

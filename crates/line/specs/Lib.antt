@@ -5,3 +5,4 @@ pub mod Settings
 pub mod Header
 pub mod Layout
 pub mod Check
+pub mod Cuts

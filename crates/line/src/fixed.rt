@@ -1,6 +1,6 @@
 // The table of fixed blocks. It is a match and no constant array, because a constant array is built anew at each use.
 ghost use mathlib.Core.Path.{_≡_};
-ghost use Rattle.line.specs.Fixed.{fixed, fixedOf, placesOf, sizeOf, isVariable, blockRefused};
+ghost use Rattle.line.specs.Fixed.{fixed, table, find, fixedOf, placesOf, sizeOf, isVariable, blockRefused};
 
 // A kind of fixed blocks: size with the type word, and places at each rate.
 pub struct Fixed {
@@ -19,11 +19,10 @@ fn kind(size: u16, at270: u16, at360: u16) -> Fixed
     }
 }
 
-// What B5-B0 of a block type stand for; all 0 where they are not listed.
-pub fn fixed_of(block: u8) -> Fixed
-    ensures { λ r. ⌜ r ≡ fixedOf block ⌝ }
+// The row of the table; all 0 where there is none.
+fn listed(bits: u8) -> Fixed
+    ensures { λ r. ⌜ r ≡ find bits table ⌝ }
 {
-    let bits = block % 64;
     match bits {
         0x01 => kind(1438, 1, 1),
         0x02 => kind(719, 2, 2),
@@ -60,6 +59,13 @@ pub fn fixed_of(block: u8) -> Fixed
         0x38 => kind(160, 9, 12),
         _ => kind(0, 0, 0),
     }
+}
+
+// What B5-B0 of a block type stand for; all 0 where they are not listed.
+pub fn fixed_of(block: u8) -> Fixed
+    ensures { λ r. ⌜ r ≡ fixedOf block ⌝ }
+{
+    listed(block % 64)
 }
 
 // The size of a block, its type word included.

@@ -8,7 +8,8 @@ ghost use lib.ListN.{length};
 ghost use Rattle.lists.specs.Lists.{part};
 ghost use Rattle.words.specs.Forms.{byteWord};
 ghost use Rattle.words.specs.Crc.{crcWords};
-ghost use Rattle.line.specs.Header.{headerWords, Laid};
+ghost use Rattle.line.specs.Header.{headerWords};
+ghost use Rattle.line.specs.Cuts.{Laid};
 
 // The words of src from at on.
 fn lay_words(words: [u16; 53], at: usize, src: &[u16]) -> [u16; 53]

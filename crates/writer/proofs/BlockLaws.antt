@@ -11,7 +11,8 @@ use Rattle.words.specs.Forms.{byteWord}
 use Rattle.words.specs.Modes.{wordOf}
 use Rattle.words.specs.Class.{separator, endCode}
 use Rattle.line.specs.Fixed.{isVariable}
-use Rattle.writer.specs.Block.{countWords, blockWords, fixedWords, headIn, tailIn, wordsIn}
+use Rattle.writer.specs.Block.{countWords, blockWords, fixedWords, wordsIn}
+use Rattle.writer.specs.Cuts.{headIn, tailIn}
 
 pub head-variable : (block kind n : ℕ) → isVariable block ≡ true → headIn block kind n ≡ separator ∷ byteWord kind ∷ countWords n
 unfolding headIn

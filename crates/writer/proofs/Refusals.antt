@@ -26,7 +26,7 @@ use Rattle.writer.specs.declared.state.Rest.{Rest}
 use Rattle.writer.specs.declared.state.Rest.the-variants.{Whole, Part}
 use Rattle.writer.specs.declared.state.Writer.{Writer}
 use Rattle.writer.specs.State.{most, isPart, laidOf, misshapen, impossible, endIn}
-use Rattle.writer.specs.Block.{headIn, tailIn}
+use Rattle.writer.specs.Cuts.{headIn, tailIn}
 use Rattle.writer.specs.Adding.{valued, illShaped, isFull, isOther, addFault}
 use Rattle.writer.specs.Opening.{openBlocked, openFault}
 use Rattle.writer.specs.Closing.{closeFault}

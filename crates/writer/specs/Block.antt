@@ -22,14 +22,6 @@ blockWords mode kind values = separator ∷ byteWord kind ∷ countWords (length
 unfoldable pub fixedWords : ℕ → ℕ → List ℕ → List ℕ
 fixedWords mode kind values = byteWord kind ∷ map (wordOf mode) values
 
--- what stands before the values, and what after them, by the block type of the line
-unfoldable pub headIn : ℕ → ℕ → ℕ → List ℕ
-unfolding countWords
-headIn block kind n = pick (isVariable block) (separator ∷ byteWord kind ∷ countWords n) (byteWord kind ∷ [])
-
-unfoldable pub tailIn : ℕ → List ℕ
-tailIn block = pick (isVariable block) (endCode ∷ []) []
-
 -- by the block type of the line
 unfoldable pub wordsIn : ℕ → ℕ → ℕ → List ℕ → List ℕ
 unfolding blockWords fixedWords

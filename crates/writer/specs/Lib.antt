@@ -1,5 +1,6 @@
 pub mod State
 pub mod Block
+pub mod Cuts
 pub mod Answers
 pub mod Opening
 pub mod Adding

@@ -1,7 +1,7 @@
 -- Opening a line: answers 1, 2, 9-14, 20, and what stands in the line and the state afterwards.
 -- Assumes nothing.
 use Prim.Native.Nat.{ℕ}
-use mathlib.Core.Bool.{Bool, _&&_, _||_, not}
+use mathlib.Core.Bool.{Bool, false, _&&_, _||_, not}
 use mathlib.Core.List.{List, [], _∷_}
 use lib.Dec.{eqb, leb}
 use lib.ListN.{length, replicate}
@@ -20,9 +20,9 @@ use Rattle.writer.specs.declared.state.Answer.the-variants.{Refused, Don
 use Rattle.writer.specs.State.{isPart, impossible}
 use Rattle.writer.specs.Answers.{Left, left}
 
--- the number that comes next; with no last number 0, which is no line's number (9)
+-- the number comes next; with no last number none does
 abbrev pub isNext : ℕ → Last → ℕ → Bool
-isNext lines Unknown n = eqb n 0
+isNext lines Unknown n = false
 isNext lines (Number x) n = eqb n (nextNumber lines x)
 
 -- 20: line open already, or unfinished block and a changed setting or a number that isn't next

@@ -7,7 +7,8 @@ ghost use Prim.Native.Nat.{_+_, _/_, _%_, _≤_};
 ghost use lib.ListN.{length, take, drop};
 ghost use Rattle.words.specs.Forms.{byteWord};
 ghost use Rattle.words.specs.Modes.{wordOf};
-ghost use Rattle.writer.specs.Block.{headIn, tailIn, wordsIn};
+ghost use Rattle.writer.specs.Block.{wordsIn};
+ghost use Rattle.writer.specs.Cuts.{headIn, tailIn};
 
 // The length of the head.
 fn head_length(block: u8) -> usize

@@ -32,7 +32,7 @@ fn is_next(lines: u16, last: Last, n: u16) -> bool
     ensures { λ r. ⌜ r ≡ isNext lines last n ⌝ }
 {
     match last {
-        Last::Unknown => n == 0,
+        Last::Unknown => false,
         Last::Number(x) => n == course::next_number(lines, x),
     }
 }

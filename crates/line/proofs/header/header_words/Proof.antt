@@ -4,7 +4,8 @@ use Prim.Native.Nat.{ℕ}
 use mathlib.Core.List.{[], _∷_}
 use native.Mathlib.Omega.{arith}
 use lib.ListN.{replicate}
-use Rattle.line.specs.Header.{Laid, headerWords}
+use Rattle.line.specs.Header.{headerWords}
+use Rattle.line.specs.Cuts.{Laid}
 use Rattle.line.proofs.Written.{written}
 use borrow.Author.Needs.{needs}
 use Rattle.line.proofs.header.header_words.Statement.{statement}

@@ -1,7 +1,7 @@
 -- `line::header::lay_bytes` meets its contract. Assumes nothing.
 use mathlib.Core.Path.{_≡_, refl, sym, ap, _∙_}
-use Prim.Native.Nat.{ℕ, _+_, _-_, _≤_, _<_}
-use mathlib.Core.List.{List, _++_, map}
+use Prim.Native.Nat.{_+_, _-_, _≤_, _<_}
+use mathlib.Core.List.{_++_, map}
 use denote.Ref.{now}
 use native.Mathlib.Omega.{arith}
 use lib.ListN.{length, take, length-map}

@@ -3,7 +3,7 @@ use mathlib.Core.Path.{ap, ap₂, _∙_, subst}
 use Prim.Native.Nat.{ℕ}
 use mathlib.Core.List.{List, [], _∷_}
 use Rattle.words.specs.Crc.{crcLow, crcHigh, crcWords}
-use Rattle.line.specs.Header.{Laid}
+use Rattle.line.specs.Cuts.{Laid}
 use borrow.Author.Needs.{needs}
 use Rattle.line.proofs.header.lay_crc.Statement.{statement}
 use Rattle.line.proofs.header.lay_crc.Tie as tie

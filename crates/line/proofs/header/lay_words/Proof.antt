@@ -1,11 +1,10 @@
 -- `line::header::lay_words` meets its contract. Assumes nothing.
 use borrow.Author.Needs.{needs}
-use mathlib.Core.Path.{_≡_, refl, sym, ap, ap₂, _∙_}
-use Prim.Native.Nat.{ℕ, _+_, _%_, _≤_, _<_, _-_}
-use mathlib.Core.List.{List, _++_, map}
+use mathlib.Core.Path.{_≡_, refl}
+use Prim.Native.Nat.{_+_, _≤_, _-_}
+use mathlib.Core.List.{_++_}
 use denote.Ref.{now}
-use native.Mathlib.Omega.{arith}
-use lib.ListN.{length, take, set, length-set, length-map}
+use lib.ListN.{length, take}
 use Rattle.lists.proofs.Loops.{lay-none, lay-next, lay-end}
 use Rattle.line.proofs.header.lay_words.Statement.{statement}
 use Rattle.line.proofs.header.lay_words.Tie as tie

@@ -4,7 +4,7 @@ use mathlib.Core.List.{map}
 use Prim.Native.Nat.{ℕ, min}
 use lib.ListN.{length, take, drop, length-map}
 use Rattle.words.specs.Modes.{wordOf}
-use Rattle.writer.specs.Block.{tailIn}
+use Rattle.writer.specs.Cuts.{tailIn}
 use Rattle.writer.proofs.FillLaws.{part-map, front-long, part-long, second-in, laid-by-two}
 use borrow.Author.Needs.{needs}
 use Rattle.writer.proofs.block.lay_rest.Statement.{statement}

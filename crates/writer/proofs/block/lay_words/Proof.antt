@@ -5,7 +5,7 @@ use Prim.Native.Nat.{ℕ, _+_, _≤_, min}
 use native.Mathlib.Omega.{arith}
 use lib.ListN.{length, take, drop}
 use Rattle.words.specs.Modes.{wordOf}
-use Rattle.writer.specs.Block.{headIn, tailIn}
+use Rattle.writer.specs.Cuts.{headIn, tailIn}
 use Rattle.writer.proofs.FillLaws.{front-long, front-in, front-is, second-in, laid-by-two}
 use Rattle.writer.proofs.BlockLaws.{head-long, words-are, words-long}
 use borrow.Author.Needs.{needs}

@@ -2,7 +2,7 @@
 use mathlib.Core.Path.{_≡_, sym, ap, _∙_}
 use native.Mathlib.Omega.{arith}
 use lib.ListN.{length}
-use Rattle.writer.specs.Block.{tailIn}
+use Rattle.writer.specs.Cuts.{tailIn}
 use Rattle.writer.proofs.BlockLaws.{head-six, head-one, tail-variable, tail-fixed}
 use borrow.Author.Needs.{needs}
 use Rattle.writer.proofs.block.total.Statement.{statement}
