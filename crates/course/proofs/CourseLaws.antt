@@ -2,11 +2,11 @@
 -- Assumes nothing.
 use mathlib.Core.Path.{_≡_, refl, sym, ap, ap₂, _∙_, subst}
 use mathlib.Core.Bool.{Bool, true, false, _&&_, _||_, not}
-use Prim.Native.Nat.{ℕ, suc, _+_, _*_, _/_, _%_, _≤_, _<_}
-use native.Mathlib.Nat.{zero-mod, mod-add-div', add-mul-mod-self-right, suc-mul, mul-le-mul-right, lt-of-mul-lt-mul-right}
+use Prim.Native.Nat.{ℕ, zero, suc, _+_, _-_, _*_, _/_, _%_, _≤_, _<_}
+use native.Mathlib.Nat.{zero-mod, mod-add-div', add-mul, add-mul-mod-self-right, suc-mul, mul-le-mul-right, lt-of-mul-lt-mul-right, le-of-mul-le-mul-right, one-mul}
 use native.Mathlib.Omega.{arith}
 use lib.Dec.{eqb, leb, ltb}
-use borrow.Author.Tests.{eqb-true, eq-eqb, ne-eqb, le-ltb, not-false}
+use borrow.Author.Tests.{eqb-true, eqb-false, eq-eqb, ne-eqb, le-ltb, ltb-false, not-false}
 use Rattle.lists.specs.Tests.{pick}
 use Rattle.lists.proofs.Tests.{true-false, or-false, false-or, pick-false}
 use Rattle.line.specs.declared.settings.Settings.{Settings}
@@ -76,6 +76,10 @@ start-placed system t clean =
 pub variable-placed : (p block flag q : ℕ) → isVariable block ≡ true → q ≤ blocksEnd p block flag → misplaced p block flag (At q) ≡ false
 variable-placed p block flag q v h = false-or (le-ltb (blocksEnd p block flag) q h) (ap (λ (b : Bool). not b && offGrid block q) v)
 
+-- a place is within the end
+pub placed-end : (p block flag q : ℕ) → misplaced p block flag (At q) ≡ false → q ≤ blocksEnd p block flag
+placed-end p block flag q e = ltb-false (blocksEnd p block flag) q (or-false (ltb (blocksEnd p block flag) q) _ e .0)
+
 -- a fixed line: a place stands on the grid
 grid-by : (a v g : Bool) → v ≡ false → (a || (not v && g)) ≡ false → g ≡ false
 grid-by a true g v e = absurd (true-false v)
@@ -111,6 +115,44 @@ grid-room p block flag q v e h =
     let n = ends-fixed p block flag v in
     subst (λ (x : ℕ). q + sizeOf block ≤ x) (sym n)
     (whole-place (sizeOf block) (placesOf p block) q (on-grid block q (placed-grid p block flag q v e)) (subst (λ (x : ℕ). q < x) n h))
+
+-- of the places that are left after it none passes the end
+left-by : (s n q k : ℕ) → q % s ≡ 0 → q ≤ n * s → k ≤ n - q / s → q + k * s ≤ n * s
+left-by s n q zero e h l = omega arith
+left-by s n q (suc k) e h l =
+    let d : q / s * s ≡ q = omega (arith, mod-add-div' q s, e) in
+    let m : q / s + suc k ≤ n = omega arith in
+    omega (arith, mul-le-mul-right s m, add-mul (q / s) (suc k) s, d)
+
+pub grid-left : (p block flag q k : ℕ) → isVariable block ≡ false → misplaced p block flag (At q) ≡ false → k ≤ placesOf p block - q / sizeOf block
+    → q + k * sizeOf block ≤ blocksEnd p block flag
+grid-left p block flag q k v e h =
+    let n = ends-fixed p block flag v in
+    subst (λ (x : ℕ). q + k * sizeOf block ≤ x) (sym n)
+    (left-by (sizeOf block) (placesOf p block) q k (on-grid block q (placed-grid p block flag q v e)) (subst (λ (x : ℕ). q ≤ x) n (placed-end p block flag q e)) h)
+
+-- a place has a word, and no more places stand before it than there are
+pub grid-some : (p block flag q : ℕ) → isVariable block ≡ false → misplaced p block flag (At q) ≡ false → (1 ≤ sizeOf block) × (q / sizeOf block ≤ placesOf p block)
+unfolding offGrid
+grid-some p block flag q v e =
+    let g = placed-grid p block flag q v e in
+    let z = eqb-false (sizeOf block) 0 (or-false (eqb (sizeOf block) 0) _ g .0) in
+    let one : 1 ≤ sizeOf block = omega (arith, z) in
+    let d : q / sizeOf block * sizeOf block ≡ q = omega (arith, mod-add-div' q (sizeOf block), on-grid block q g) in
+    let h : q ≤ placesOf p block * sizeOf block = subst (λ (x : ℕ). q ≤ x) (ends-fixed p block flag v) (placed-end p block flag q e) in
+    (one, le-of-mul-le-mul-right (subst (λ (x : ℕ). x ≤ placesOf p block * sizeOf block) (sym d) h) one)
+
+some-by : (v a z c : Bool) → v ≡ false → (not v && (a || (z || c))) ≡ false → z ≡ false
+some-by true a z c v e = absurd (true-false v)
+some-by false a z c v e = or-false z c (or-false a (z || c) e .1) .0
+
+-- a place that the rate has is no longer than where blocks end
+pub whole-small : (p block flag : ℕ) → isVariable block ≡ false → blockRefused p block flag ≡ false → sizeOf block ≤ blocksEnd p block flag
+unfolding blockRefused
+whole-small p block flag v e =
+    let n : eqb (placesOf p block) 0 ≡ false = some-by (isVariable block) (leb 128 block) (eqb (placesOf p block) 0) _ v e in
+    let one : 1 ≤ placesOf p block = omega (arith, eqb-false (placesOf p block) 0 n) in
+    subst (λ (x : ℕ). sizeOf block ≤ x) (sym (ends-fixed p block flag v)) (omega (arith, mul-le-mul-right (sizeOf block) one, one-mul (sizeOf block)))
 
 -- ---- what a possible course has with a line begun or an open block
 pub record Begun (system : ℕ) (last : Last) (t : Settings) (place : Place) (busy : Bool) : Type 0 where

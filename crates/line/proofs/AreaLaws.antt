@@ -1,17 +1,17 @@
 -- How long an area is, and what the class of a word says of its place in it.
 -- Assumes nothing.
-use mathlib.Core.Path.{_≡_, refl, sym, ap, _∙_, subst}
+use mathlib.Core.Path.{_≡_, refl, sym, subst}
 use mathlib.Core.Bool.{Bool, true, false, _&&_, _||_, not}
 use Prim.Native.Nat.{ℕ, _-_, _≤_}
 use native.Mathlib.Omega.{arith}
 use lib.Dec.{T, eqb}
-use borrow.Author.Tests.{eqb-true}
 use Rattle.lists.specs.Tests.{pick}
 use Rattle.words.specs.Forms.{isByte, isData}
 use Rattle.words.specs.Class.{classOf, separator, endCode}
 use Rattle.words.specs.declared.class.Class.{Class}
 use Rattle.words.specs.declared.class.Class.the-variants.{Byte, Other, Separator, Ending, Illegal}
 use Rattle.words.proofs.FormLaws.{byte-data}
+use Rattle.words.proofs.ClassLaws.{code-not-data}
 use Rattle.line.specs.Layout.{areaLength}
 use Rattle.line.specs.Check.{legal}
 
@@ -67,9 +67,6 @@ by-tests true true false false false false p q r = refl
 by-tests true false false false false false p q r = refl
 by-tests false true false false false false p q r = refl
 by-tests false false false false false false p q r = refl
-
-code-not-data : (w code : ℕ) → isData code ≡ false → eqb w code ≡ true → isData w ≡ false
-code-not-data w code n e = ap isData (eqb-true w code e) ∙ n
 
 pub legal-class : (mode : ℕ) (variable : Bool) (w : ℕ) → legal mode variable w ≡ allowed (eqb mode 8) variable (classOf w)
 unfolding legal classOf isData

@@ -3,13 +3,14 @@
 use mathlib.Core.Path.{_≡_, refl, sym, ap, ap₂, _∙_}
 use mathlib.Core.Bool.{Bool, true, false, _&&_}
 use mathlib.Core.List.{List, [], _∷_, _++_, append-assoc, append-nil}
-use Prim.Native.Nat.{ℕ, suc, _+_, _<_, _≤_}
+use Prim.Native.Nat.{ℕ, suc, _+_, _-_, _<_, _≤_}
 use native.Mathlib.Nat.{add-zero, add-assoc}
 use native.Mathlib.Numerals.{add-one}
 use native.Mathlib.Omega.{arith}
 use lib.Dec.{eqb}
 use lib.ListN.{length, getD, take, drop, set, drop-of-length-le}
-use lib.Seq.{drop-cons, take-suc, take-suc-set, take-all}
+use lib.Seq.{drop-cons, drop-drop, take-suc, take-suc-set, take-all, paste}
+use borrow.Rule.Slice.PartMut.{putMid}
 use Rattle.lists.specs.Lists.{same, each}
 
 pub next-drop : (s : List ℕ) (i : ℕ) → i < length s → drop i s ≡ getD s i 0 ∷ drop (i + 1) s
@@ -77,3 +78,10 @@ lay-none at out = ap (λ (n : ℕ). take n out) (add-zero at) ∙ sym (append-ni
 pub lay-end : (at i : ℕ) (out before ys : List ℕ) → i ≡ length ys → take (at + i) out ≡ take at before ++ take i ys → take (at + length ys) out ≡ take at before ++ ys
 lay-end at i out before ys e t =
     ap (λ (n : ℕ). take (at + n) out) (sym e) ∙ t ∙ ap (λ (l : List ℕ). take at before ++ l) (take-all i ys (omega arith))
+
+-- ---- a part lent from a on, k elements long, back with the first k of s
+pub mid-paste : (d s ys : List ℕ) (a k : ℕ) → ys ≡ take k s → putMid a (a + k - a) d ys ≡ paste d a s k
+mid-paste d s ys a k e =
+    let m : a + k - a ≡ k = omega arith in
+    ap₂ (λ (x y : List ℕ). take a d ++ (x ++ y)) e (ap (λ (i : ℕ). drop i (drop a d)) m ∙ drop-drop k a d)
+    ∙ sym (append-assoc (take a d) (take k s) (drop (a + k) d))

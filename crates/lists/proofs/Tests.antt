@@ -166,3 +166,14 @@ low-step n {b} {d} {cs} {x} {r} e f g = record { is = e ∙ ap₂ (λ (c : Bool)
     step : (c : Bool) → pick c n (lowest (suc n) cs) ≡ lowest n (c ∷ cs)
     step true = refl
     step false = refl
+
+-- ---- a number that no condition has
+pub lowest-or : (n : ℕ) (cs : List Bool) → (lowest n cs ≡ 0) ⊎ (n ≤ lowest n cs)
+lowest-or n [] = inl refl
+lowest-or n (true ∷ cs) = inr (omega arith)
+lowest-or n (false ∷ cs) = ⊎-elim (λ z. inl z) (λ h. inr (omega arith)) (lowest-or (suc n) cs)
+
+pub not-2 : (b : Bool) (n r : ℕ) → (n ≡ 2 → ⊥) → (r ≡ 2 → ⊥) → pick b n r ≡ 2 → ⊥
+unfolding pick
+not-2 true n r h k e = h e
+not-2 false n r h k e = k e

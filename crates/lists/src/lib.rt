@@ -1,6 +1,8 @@
-// What every layer would otherwise say again: two lent parts compared, and the lowest number whose condition holds.
+// What every layer would otherwise say again: two lent parts compared, the lowest number whose condition holds, the smaller of
+// two lengths and what is left of one.
 ghost use mathlib.Core.Path.{_≡_};
 ghost use Rattle.lists.specs.Tests.{pick, orNext};
+ghost use Prim.Native.Nat.{_-_, min};
 ghost use Rattle.lists.specs.Lists.{same};
 
 // The two parts hold the same words. Every word is looked at, so that the loop has no early exit.
@@ -47,4 +49,18 @@ pub fn or_next(first: u8, next: u8) -> u8
     ensures { λ r. ⌜ r ≡ orNext first next ⌝ }
 {
     if first == 0 { next } else { first }
+}
+
+// a - b, or 0.
+pub fn less(a: usize, b: usize) -> usize
+    ensures { λ r. ⌜ r ≡ a - b ⌝ }
+{
+    if b < a { a - b } else { 0 }
+}
+
+// The smaller.
+pub fn at_most(a: usize, b: usize) -> usize
+    ensures { λ r. ⌜ r ≡ min a b ⌝ }
+{
+    if a < b { a } else { b }
 }

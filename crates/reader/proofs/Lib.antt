@@ -1,1 +1,15 @@
 pub mod PhaseLaws
+pub mod WalkLaws
+pub mod RunLaws
+pub mod Going
+pub mod PlaceLaws
+pub mod Kept
+pub mod Ready
+pub mod Stays
+pub mod SignedLaws
+pub mod JumpLaws
+pub mod EventLaws
+pub mod Accepts
+pub mod ReadLaws
+pub mod Ends
+pub mod ReadSamples

@@ -1,2 +1,10 @@
 pub mod Phases
 pub mod Machine
+pub mod Walk
+pub mod Runs
+pub mod Places
+pub mod Jump
+pub mod State
+pub mod Events
+pub mod Reading
+pub mod Lending

@@ -2,7 +2,7 @@
 -- It knows no line and no settings; the room's length is its capacity.
 -- Assumes nothing.
 use Prim.Native.Nat.{ℕ, _+_, _*_, _%_}
-use mathlib.Core.Bool.{Bool, true, false, _&&_, _||_, not}
+use mathlib.Core.Bool.{true, false, _&&_, _||_, not}
 use lib.Dec.{eqb, leb, ltb}
 use Rattle.lists.specs.Tests.{pick}
 use Rattle.words.specs.Class.{classOf}
@@ -10,7 +10,6 @@ use Rattle.words.specs.declared.class.Class.{Class}
 use Rattle.words.specs.declared.class.Class.the-variants.{Byte, Other, Separator, Ending, Illegal}
 use Rattle.reader.specs.declared.machine.Phase.{Phase}
 use Rattle.reader.specs.declared.machine.Phase.the-variants.{Idle, Kind, First, Second, Third, Fourth, Data}
-use Rattle.reader.specs.declared.machine.Met.{Met}
 use Rattle.reader.specs.declared.machine.Met.the-variants.{Nothing, Whole, Lost}
 use Rattle.reader.specs.declared.machine.Step.{Step}
 

@@ -1,12 +1,14 @@
 -- Laws of the classes: what each class says of a word, and what the word of a value is.
 -- Assumes nothing.
-use mathlib.Core.Path.{_≡_, refl, sym, ap, _∙_}
-use mathlib.Core.Bool.{true, false}
+use mathlib.Core.Path.{_≡_, refl, sym, ap, _∙_, subst}
+use mathlib.Core.Bool.{Bool, true, false, _||_}
 use Prim.Native.Nat.{ℕ}
-use lib.Dec.{eqb}
+use lib.Dec.{T, eqb}
+use borrow.Author.Tests.{eqb-true}
 use Rattle.lists.specs.Tests.{pick}
 use Rattle.words.specs.Forms.{isByte, isData}
-use Rattle.words.specs.Class.{classOf, classNumber, separator, endCode}
+use Rattle.words.specs.Class.{classOf, classNumber, separator, endCode, isCode}
+use Rattle.words.proofs.FormLaws.{byte-data}
 use Rattle.words.specs.declared.class.Class.{Class}
 use Rattle.words.specs.declared.class.Class.the-variants.{Byte, Other, Separator, Ending, Illegal}
 
@@ -47,3 +49,27 @@ module _ (w : ℕ) where
   pub class-illegal : isByte w ≡ false → isData w ≡ false → eqb w separator ≡ false → eqb w endCode ≡ false → classOf w ≡ Illegal
   unfolding classOf pick
   class-illegal b d s e = simp (b, d, s, e)
+
+-- ---- 309h and 30Ah by the class: what is in byte form is in data form, and a code is not
+never : {A : Type 0} → true ≡ false → A
+never e = absurd (subst T e tt)
+
+code-by : (b d s e : Bool) → (b ≡ true → d ≡ true) → (s ≡ true → d ≡ false) → (e ≡ true → d ≡ false)
+    → (s || e) ≡ isCode (pick b Byte (pick d Other (pick s Separator (pick e Ending Illegal))))
+unfolding pick
+code-by true false s e p q r = never (sym (p refl))
+code-by b true true e p q r = never (q refl)
+code-by b true false true p q r = never (r refl)
+code-by true true false false p q r = refl
+code-by false true false false p q r = refl
+code-by false false true e p q r = refl
+code-by false false false true p q r = refl
+code-by false false false false p q r = refl
+
+pub code-not-data : (w code : ℕ) → isData code ≡ false → eqb w code ≡ true → isData w ≡ false
+code-not-data w code n e = ap isData (eqb-true w code e) ∙ n
+
+pub code-class : (w : ℕ) → (eqb w separator || eqb w endCode) ≡ isCode (classOf w)
+unfolding classOf isData
+code-class w =
+    code-by (isByte w) (isData w) (eqb w separator) (eqb w endCode) (byte-data w) (code-not-data w separator refl) (code-not-data w endCode refl)

@@ -1,6 +1,7 @@
 -- What a word of the payload is.
 -- Assumes nothing.
 use Prim.Native.Nat.{ℕ}
+use mathlib.Core.Bool.{Bool, true, false}
 use lib.Dec.{eqb}
 use Rattle.lists.specs.Tests.{pick}
 use Rattle.words.specs.Forms.{isByte, isData}
@@ -26,3 +27,11 @@ classNumber Other = 2
 classNumber Separator = 3
 classNumber Ending = 4
 classNumber Illegal = 5
+
+-- 309h or 30Ah
+abbrev pub isCode : Class → Bool
+isCode Byte = false
+isCode Other = false
+isCode Separator = true
+isCode Ending = true
+isCode Illegal = false

@@ -1,7 +1,7 @@
-// What a word of the payload is. Every decision about a payload word goes through class_of.
+// What a word of the payload is. Every decision about a payload word goes through class_of or is_code.
 use crate::forms;
 ghost use mathlib.Core.Path.{_≡_};
-ghost use Rattle.words.specs.Class.{classOf};
+ghost use Rattle.words.specs.Class.{classOf, isCode};
 
 pub enum Class {
     Byte, // byte form
@@ -28,4 +28,11 @@ pub fn class_of(w: u16) -> Class
         return Class::Ending;
     }
     Class::Illegal
+}
+
+// The word is 309h or 30Ah: what class_of says of a word where only that is asked.
+pub fn is_code(w: u16) -> bool
+    ensures { λ r. ⌜ r ≡ isCode (classOf w) ⌝ }
+{
+    (w == 0x309) | (w == 0x30a)
 }

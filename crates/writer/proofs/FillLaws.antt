@@ -2,13 +2,13 @@
 -- Assumes nothing.
 use mathlib.Core.Path.{_≡_, refl, sym, ap, ap₂, _∙_}
 use mathlib.Core.Logic.{⊎-elim}
-use mathlib.Core.List.{List, [], _∷_, _++_, map, append-assoc}
+use mathlib.Core.List.{List, [], _∷_, _++_, map}
 use Prim.Native.Nat.{ℕ, zero, suc, _+_, _-_, _%_, _≤_, _<_, min}
 use native.Mathlib.Nat.{zero-sub, sub-zero, suc-sub-suc, add-zero, add-suc, suc-add, le-of-suc-le-suc, not-suc-le-zero}
 use native.Mathlib.Omega.{arith}
 use lib.Dec.{eqb}
 use lib.ListN.{length, getD, set, take, drop, length-take, length-drop, length-set, drop-of-length-le}
-use lib.Seq.{length-take-le, take-all, drop-drop, paste}
+use lib.Seq.{length-take-le, take-all, paste}
 use borrow.Rule.Slice.PartMut.{putMid}
 use borrow.Author.Tests.{eq-eqb, ne-eqb}
 use Rattle.lists.specs.Tests.{pick}
@@ -16,6 +16,7 @@ use Rattle.lists.proofs.Tests.{lt-or-le, pick-true, pick-false}
 use Rattle.writer.proofs.Frame.{second-long, both-back}
 use Rattle.lists.proofs.Lists.{map-part}
 use Rattle.lists.proofs.Loops.{copy-next, copy-end}
+use Rattle.lists.proofs.Loops as lent
 use Rattle.words.specs.Forms.{byteWord, dataWord}
 use Rattle.words.specs.Modes.{wordOf}
 use Rattle.line.specs.Layout.{gapWord, gapWords}
@@ -159,8 +160,7 @@ mid-paste d s ys a k h e =
     let m : a + k - a ≡ k = omega arith in
     let n : length (take (a + k - a) (drop a d)) ≡ k =
     ap (λ (i : ℕ). length (take i (drop a d))) m ∙ length-take-le k (drop a d) (rw (length-drop a d) (omega arith)) in
-    ap₂ (λ (x y : List ℕ). take a d ++ (x ++ y)) (e ∙ ap (λ (i : ℕ). take i s) n) (ap (λ (i : ℕ). drop i (drop a d)) m ∙ drop-drop k a d)
-    ∙ sym (append-assoc (take a d) (take k s) (drop (a + k) d))
+    lent.mid-paste d s ys a k (e ∙ ap (λ (i : ℕ). take i s) n)
 
 pub part-most : (d : List ℕ) (a k : ℕ) → length (take (a + k - a) (drop a d)) ≤ k
 part-most d a k = rw (length-take (a + k - a) (drop a d)) (omega arith)

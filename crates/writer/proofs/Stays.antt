@@ -3,15 +3,15 @@
 use mathlib.Core.Path.{_≡_, refl, sym, ap, ap₂, _∙_, subst}
 use mathlib.Core.Bool.{Bool, true, false, _&&_, _||_, not}
 use mathlib.Core.List.{List, [], _∷_, map}
-use mathlib.Core.Logic.{_⊎_, inl, inr, ⊎-elim}
-use Prim.Native.Nat.{ℕ, suc, _+_, _-_, _*_, _≤_, _<_, min}
+use mathlib.Core.Logic.{⊎-elim}
+use Prim.Native.Nat.{ℕ, _+_, _-_, _*_, _≤_, _<_, min}
 use native.Mathlib.Nat.{one-mul}
 use native.Mathlib.Omega.{arith}
 use lib.Dec.{T, eqb, ltb}
 use lib.ListN.{length, getD, drop, length-append, length-drop, length-map}
 use borrow.Author.Tests.{eqb-true, eqb-false, eq-eqb, le-leb, le-ltb, ltb-false, not-false}
-use Rattle.lists.specs.Tests.{pick, lowest}
-use Rattle.lists.proofs.Tests.{or-left, or-right, or-false, false-or, both-true, and-true, pick-true, pick-false}
+use Rattle.lists.specs.Tests.{pick}
+use Rattle.lists.proofs.Tests.{lowest-or, not-2, or-left, or-right, or-false, false-or, both-true, and-true, pick-true, pick-false}
 use Rattle.words.specs.Modes.{wordOf}
 use Rattle.words.specs.Class.{endCode}
 use Rattle.line.specs.declared.settings.Settings.{Settings}
@@ -100,17 +100,6 @@ close-possible w line e =
 pub fresh-possible : (system mode : ℕ) → impossible (fresh system mode) ≡ false
 unfolding impossible
 fresh-possible system mode = refl
-
--- ---- answer 2 is of an impossible state alone
-lowest-or : (n : ℕ) (cs : List Bool) → (lowest n cs ≡ 0) ⊎ (n ≤ lowest n cs)
-lowest-or n [] = inl refl
-lowest-or n (true ∷ cs) = inr (omega arith)
-lowest-or n (false ∷ cs) = ⊎-elim (λ z. inl z) (λ h. inr (omega arith)) (lowest-or (suc n) cs)
-
-not-2 : (b : Bool) (n r : ℕ) → (n ≡ 2 → ⊥) → (r ≡ 2 → ⊥) → pick b n r ≡ 2 → ⊥
-unfolding pick
-not-2 true n r h k e = h e
-not-2 false n r h k e = k e
 
 settings-2 : (system : ℕ) (t : Settings) → settingsFault system t ≡ 2 → ⊥
 unfolding settingsFault

@@ -1,6 +1,5 @@
 // Adding a block: as much of it as fits is laid; the next call lends the same block again.
 use crate::block;
-use crate::fill;
 use crate::state;
 use crate::state::Laid;
 use crate::state::Rest;
@@ -140,7 +139,7 @@ pub fn add_block(w: Writer, kind: u16, values: &[u16], line: &mut [u16]) -> Addi
     let place = course::place_of(at);
     let laid = state::laid_of(rest);
     let left = block::total(settings.block, values.len()) - laid;
-    let k = fill::at_most(state::end_in(w) - place, left);
+    let k = lists::at_most(state::end_in(w) - place, left);
     let a = s.length - s.payload + place;
     let e = a + k;
     block::lay_words(settings.block, w.mode, kind, values, laid, &mut line[a..e]);

@@ -74,11 +74,11 @@ fn lay_rest(block: u8, mode: u8, values: &[u16], j: usize, out: &mut [u16])
     ensures { λ _. ⌜ now (out .exit) ≡ take (length (now (out .entry))) (drop j (map (wordOf mode) (now (values .entry)) ++ tailIn block)) ⌝ }
 {
     let n = values.len();
-    let a = fill::at_most(out.len(), fill::less(n, j));
-    let b = fill::at_most(j, n);
+    let a = lists::at_most(out.len(), lists::less(n, j));
+    let b = lists::at_most(j, n);
     let e = b + a;
     fill::put_values(mode, &values[b..e], &mut out[..a]);
-    lay_tail(block, fill::less(j, n), &mut out[a..]);
+    lay_tail(block, lists::less(j, n), &mut out[a..]);
 }
 
 // A block's words from word j, as many as there is room for.
@@ -87,13 +87,13 @@ pub(crate) fn lay_words(block: u8, mode: u8, kind: u16, values: &[u16], j: usize
     ensures { λ _. ⌜ now (out .exit) ≡ take (length (now (out .entry))) (drop j (wordsIn block mode kind (now (values .entry)))) ⌝ }
 {
     let h = head_length(block);
-    let a = fill::at_most(out.len(), fill::less(h, j));
+    let a = lists::at_most(out.len(), lists::less(h, j));
     lay_head(
         block,
         kind,
         values.len(),
-        fill::at_most(j, h),
+        lists::at_most(j, h),
         &mut out[..a],
     );
-    lay_rest(block, mode, values, fill::less(j, h), &mut out[a..]);
+    lay_rest(block, mode, values, lists::less(j, h), &mut out[a..]);
 }

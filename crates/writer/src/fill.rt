@@ -1,25 +1,11 @@
 // Lent parts filled with words. Each is lent exactly the part that it fills, so that no promise has an offset.
 ghost use mathlib.Core.Path.{_≡_};
 ghost use mathlib.Core.List.{map};
-ghost use Prim.Native.Nat.{_+_, _-_, _≤_, min};
+ghost use Prim.Native.Nat.{_+_, _≤_};
 ghost use lib.ListN.{length, take, drop, replicate};
 ghost use Rattle.words.specs.Forms.{byteWord, dataWord};
 ghost use Rattle.words.specs.Modes.{wordOf};
 ghost use Rattle.line.specs.Layout.{gapWord, gapWords};
-
-// a - b, or 0.
-pub(crate) fn less(a: usize, b: usize) -> usize
-    ensures { λ r. ⌜ r ≡ a - b ⌝ }
-{
-    if b < a { a - b } else { 0 }
-}
-
-// The smaller.
-pub(crate) fn at_most(a: usize, b: usize) -> usize
-    ensures { λ r. ⌜ r ≡ min a b ⌝ }
-{
-    if a < b { a } else { b }
-}
 
 // The words of s.
 pub(crate) fn copy_in(s: &[u16], out: &mut [u16])

@@ -1,9 +1,7 @@
 -- `reader::machine::step_word` meets its contract. Assumes nothing.
 use mathlib.Core.Path.{sym, ap, ap₂, _∙_}
-use Rattle.words.specs.declared.class.Class.{Class}
-use Rattle.reader.specs.declared.machine.Phase.{Phase}
 use Rattle.reader.specs.declared.machine.Step.{Step}
-use Rattle.reader.specs.Machine.{stepOf, idleStep, kindStep, countStep, counted, dataStep}
+use Rattle.reader.specs.Machine.{stepOf, countStep, counted}
 use borrow.Author.Needs.{needs}
 use Rattle.reader.proofs.machine.step_word.Statement.{statement}
 use Rattle.reader.proofs.machine.step_word.Tie as tie

@@ -1,0 +1,58 @@
+-- With no line begun, a call that is not refused with 1 or 2 begins the line exactly where the line check finds no fault; and what it does either way.
+-- Assumes nothing.
+use mathlib.Core.Path.{_≡_, refl, sym, ap, _∙_}
+use mathlib.Core.Bool.{true}
+use mathlib.Core.List.{List}
+use Prim.Native.Nat.{ℕ, zero, suc}
+use native.Mathlib.Omega.{arith}
+use lib.Dec.{eqb, eqb·suc-zero}
+use lib.ListN.{length}
+use borrow.Author.Tests.{eq-eqb}
+use Rattle.lists.proofs.Tests.{pick-true, pick-false}
+use Rattle.line.specs.Check.{numberOf, settingsOf, lineFault, checkedFrom, checkedOf}
+use Rattle.course.specs.declared.Place.{Place}
+use Rattle.course.specs.declared.Place.the-variants.{Shut}
+use Rattle.reader.specs.declared.state.Reader.{Reader}
+use Rattle.reader.specs.Reading.{Call, call, refused, begun, starts, readFault, readFrom, reading}
+use Rattle.reader.specs.Lending.{isBegun}
+
+-- no fault 1 or 2: the call goes by the place
+pub by-place : (st : Reader) (line room : List ℕ) (p : Place) → readFault st (length line) (length room) ≡ 0 → st .place ≡ p → reading st line room ≡ readFrom p st line room
+unfolding reading
+by-place st line room p e at = pick-true _ _ (eq-eqb _ 0 e) ∙ ap (λ (x : Place). readFrom x st line room) at
+
+-- what the call tells of the fault that the line check found
+begins-by : (st : Reader) (line : List ℕ) (n : ℕ) → n ≡ 0 → starts st (checkedFrom n line) ≡ begun st (numberOf line) (settingsOf line)
+unfolding starts
+begins-by st line zero e = pick-true _ _ refl
+begins-by st line (suc n) e = absurd (omega arith)
+
+refuses-by : (st : Reader) (line : List ℕ) (n : ℕ) → (n ≡ 0 → ⊥) → starts st (checkedFrom n line) ≡ refused st n
+unfolding starts
+refuses-by st line zero h = absurd (h refl)
+refuses-by st line (suc n) h = pick-false _ _ (eqb·suc-zero n)
+
+module _ (st : Reader) (line room : List ℕ) (fit : readFault st (length line) (length room) ≡ 0) (at : st .place ≡ Shut) where
+  shut-call : reading st line room ≡ call (starts st (checkedFrom (lineFault (st .system) (st .mode) line) line)) room
+  unfolding checkedOf
+  shut-call = by-place st line room Shut fit at
+
+  -- no fault: begun, with the number and the settings that stand in the line
+  pub accepts : lineFault (st .system) (st .mode) line ≡ 0 → reading st line room ≡ call (begun st (numberOf line) (settingsOf line)) room
+  accepts e = shut-call ∙ ap (λ x. call x room) (begins-by st line (lineFault (st .system) (st .mode) line) e)
+
+  -- a fault: refused, with its number
+  pub refuses : (n : ℕ) → lineFault (st .system) (st .mode) line ≡ n → (n ≡ 0 → ⊥) → reading st line room ≡ call (refused st n) room
+  refuses n is h = shut-call ∙ ap (λ (k : ℕ). call (starts st (checkedFrom k line)) room) is ∙ ap (λ x. call x room) (refuses-by st line n h)
+
+begun-is : (st : Reader) (line : List ℕ) → isBegun (begun st (numberOf line) (settingsOf line) .event) ≡ true
+unfolding begun
+begun-is st line = refl
+
+pub accepted-exactly : (st : Reader) (line room : List ℕ) → readFault st (length line) (length room) ≡ 0 → st .place ≡ Shut
+    → isBegun (reading st line room .told .event) ≡ eqb (lineFault (st .system) (st .mode) line) 0
+accepted-exactly st line room fit at = go (lineFault (st .system) (st .mode) line) refl
+  where
+    go : (n : ℕ) → lineFault (st .system) (st .mode) line ≡ n → isBegun (reading st line room .told .event) ≡ eqb n 0
+    go zero is = ap (λ (x : Call). isBegun (x .told .event)) (accepts st line room fit at is) ∙ begun-is st line
+    go (suc n) is = ap (λ (x : Call). isBegun (x .told .event)) (refuses st line room fit at (suc n) is (λ z. omega arith)) ∙ sym (eqb·suc-zero n)

@@ -1,0 +1,106 @@
+-- Laws of the places of a fixed line: what a place reports, and the walk from one place to the next.
+-- Assumes nothing.
+use mathlib.Core.Path.{_≡_, refl, sym, ap, ap₂, _∙_}
+use mathlib.Core.Bool.{true, false}
+use mathlib.Core.List.{List, [], _∷_, _++_, map}
+use Prim.Native.Nat.{ℕ, zero, suc, _+_, _-_, _*_, _%_, _≤_, _<_}
+use native.Mathlib.Nat.{add-zero, suc-mul, mul-le-mul-right, le-trans, le-of-eq}
+use native.Mathlib.Numerals.{add-one}
+use native.Mathlib.Omega.{arith}
+use lib.ListN.{length, getD, take, drop, length-take, length-drop, length-map}
+use lib.Seq.{length-take-le, getD-take, getD-drop, drop-drop}
+use Rattle.words.specs.Modes.{valueOf}
+use Rattle.words.specs.Class.{classOf}
+use Rattle.words.specs.declared.class.Class.{Class}
+use Rattle.words.specs.declared.class.Class.the-variants.{Byte}
+use Rattle.reader.specs.declared.machine.Phase.{Phase}
+use Rattle.reader.specs.declared.machine.Met.{Met}
+use Rattle.reader.specs.declared.machine.Met.the-variants.{Nothing, Whole}
+use Rattle.reader.specs.Walk.{Walk, after, past, unless, isNothing}
+use Rattle.reader.specs.Places.{placesIn, placeMet, metAt, placeRoom, walkPlaces}
+use Rattle.reader.proofs.WalkLaws.{past-past, goes, stops}
+
+-- ---- what a place reports
+pub met-by : (w n : ℕ) (c : Class) → classOf w ≡ c → metAt w n ≡ placeMet c (w % 256) n
+unfolding metAt
+met-by w n c e = ap (λ (x : Class). placeMet x (w % 256) n) e
+
+pub met-whole : (k n : ℕ) → (k ≡ 0 → ⊥) → placeMet Byte k n ≡ Whole k n
+met-whole zero n h = absurd (h refl)
+met-whole (suc k) n h = refl
+
+-- the values of a block, laid into the first n words of the room
+pub room-whole : (met : Met) (k n : ℕ) (f : ℕ → ℕ) (ws room xs : List ℕ) → met ≡ Whole k n → xs ≡ map f ws → xs ++ drop (length ws) room ≡ placeRoom met (map f ws) room
+room-whole met k n f ws room xs is e =
+    ap₂ (λ (l : List ℕ) (j : ℕ). l ++ drop j room) e (sym (length-map ws f)) ∙ sym (ap (λ (m : Met). placeRoom m (map f ws) room) is)
+
+-- ---- one place: its type word stands first, its values behind
+drop-take-one : (n : ℕ) (l : List ℕ) → 1 ≤ n → drop 1 (take n l) ≡ take (n - 1) (drop 1 l)
+drop-take-one zero l h = absurd (omega arith)
+drop-take-one (suc n) l h = step l ∙ (let e : n ≡ suc n - 1 = omega arith in ap (λ (k : ℕ). take k (drop 1 l)) e)
+  where
+    none : (k : ℕ) → [] ≡ take {A = ℕ} k []
+    none zero = refl
+    none (suc k) = refl
+
+    step : (l : List ℕ) → drop 1 (take (suc n) l) ≡ take n (drop 1 l)
+    step [] = none n
+    step (x ∷ l) = refl
+
+module _ (mode : ℕ) (p : Phase) (size : ℕ) (one : 1 ≤ size) where
+  -- what a place of that report, length and values does to a walk that would go on
+  abbrev at-place : List ℕ → Walk → Met → ℕ → List ℕ → Walk
+  at-place room on met n vs = unless met (after p met n (placeRoom met (map (valueOf mode) vs) room)) (past n on)
+
+  first-place : (m : ℕ) (ws room : List ℕ) → size ≤ length ws
+      → walkPlaces mode p (placesIn size (suc m) ws) room
+      ≡ at-place room (walkPlaces mode p (placesIn size m (drop size ws)) room) (metAt (getD ws 0 0) (size - 1)) size (take (size - 1) (drop 1 ws))
+  unfolding walkPlaces
+  first-place m ws room h =
+      let on = walkPlaces mode p (placesIn size m (drop size ws)) room in
+      let x = take size ws in
+      let long : length x ≡ size = length-take-le size ws h in
+      let rest : length (drop 1 x) ≡ size - 1 = length-drop 1 x ∙ ap (λ (k : ℕ). k - 1) long in
+      ap (λ (met : Met). at-place room on met (length x) (drop 1 x)) (ap₂ metAt (getD-take size ws 0 0 one) rest)
+      ∙ ap₂ (at-place room on (metAt (getD ws 0 0) (size - 1))) long (drop-take-one size ws one)
+
+  -- the place at i, which reports met, of the places that are left after k
+  module _ (places k i : ℕ) (ws room : List ℕ) (met : Met) (h : k < places) (fits : i + size ≤ length ws) (is : met ≡ metAt (getD ws i 0) (size - 1)) (whole : Walk)
+      (inv : past i (walkPlaces mode p (placesIn size (places - k) (drop i ws)) room) ≡ whole) where
+    at-turn : walkPlaces mode p (placesIn size (places - k) (drop i ws)) room
+        ≡ at-place room (walkPlaces mode p (placesIn size (places - (k + 1)) (drop (i + size) ws)) room) met size (take (i + size - (i + 1)) (drop (i + 1) ws))
+    at-turn =
+        let left : places - k ≡ suc (places - (k + 1)) = omega arith in
+        let long : size ≤ length (drop i ws) = rw (length-drop i ws) (omega arith) in
+        let short : size - 1 ≡ i + size - (i + 1) = omega arith in
+        let on : List ℕ → Walk = λ l. walkPlaces mode p (placesIn size (places - (k + 1)) l) room in
+        ap (λ (n : ℕ). walkPlaces mode p (placesIn size n (drop i ws)) room) left
+        ∙ first-place (places - (k + 1)) (drop i ws) room long
+        ∙ ap₂ (λ (l : List ℕ) (x : Met). at-place room (on l) x size (take (size - 1) (drop 1 (drop i ws)))) (drop-drop size i ws)
+        (ap (λ (w : ℕ). metAt w (size - 1)) (getD-drop i ws 0 0 ∙ ap (λ (j : ℕ). getD ws j 0) (add-zero i)) ∙ sym is)
+        ∙ ap₂ (λ (n : ℕ) (l : List ℕ). at-place room (on (drop (i + size) ws)) met size (take n l)) short (drop-drop 1 i ws)
+
+    pub turn-stops : (r : List ℕ) → isNothing met ≡ false → r ≡ placeRoom met (map (valueOf mode) (take (i + size - (i + 1)) (drop (i + 1) ws))) room → after p met (i + size) r ≡ whole
+    turn-stops r e laid = ap (after p met (i + size)) laid ∙ ap (past i) (sym (at-turn ∙ stops met _ _ e)) ∙ inv
+
+    pub turn-goes : isNothing met ≡ true → past (i + size) (walkPlaces mode p (placesIn size (places - (k + 1)) (drop (i + size) ws)) room) ≡ whole
+    turn-goes e = sym (past-past i size _) ∙ ap (past i) (sym (at-turn ∙ goes met _ _ e)) ∙ inv
+
+  -- no place is left
+  pub turns-end : (places k i : ℕ) (ws room r : List ℕ) (whole : Walk) → k ≤ places → places ≤ k → r ≡ room
+      → past i (walkPlaces mode p (placesIn size (places - k) (drop i ws)) room) ≡ whole → after p Nothing i r ≡ whole
+  unfolding walkPlaces
+  turns-end places k i ws room r whole a b e inv =
+      let none : 0 ≡ places - k = omega arith in
+      ap₂ (after p Nothing) (sym (add-zero i)) e ∙ ap (λ (n : ℕ). past i (walkPlaces mode p (placesIn size n (drop i ws)) room)) none ∙ inv
+
+-- ---- where places stand
+pub place-fits : (size places k i long : ℕ) → k < places → i ≡ k * size → places * size ≤ long → i + size ≤ long
+place-fits size places k i long h e fits =
+    le-trans (le-of-eq (ap (λ (j : ℕ). j + size) e ∙ sym (suc-mul k size))) (le-trans (mul-le-mul-right size h) fits)
+
+pub next-place-at : (size k i : ℕ) → i ≡ k * size → i + size ≡ (k + 1) * size
+next-place-at size k i e = ap (λ (j : ℕ). j + size) e ∙ sym (suc-mul k size) ∙ ap (λ (j : ℕ). j * size) (sym (add-one k))
+
+pub values-fit : (size i long : ℕ) (ws : List ℕ) → size ≤ long → length (take (i + size - (i + 1)) (drop (i + 1) ws)) ≤ long
+values-fit size i long ws h = rw (length-take (i + size - (i + 1)) (drop (i + 1) ws)) (omega arith)

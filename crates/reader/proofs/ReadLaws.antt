@@ -1,0 +1,110 @@
+-- Laws of a reading call: what is lent to the walk, and what the call then tells.
+-- Assumes nothing.
+use mathlib.Core.Path.{_≡_, refl, sym, ap, ap₂, _∙_}
+use mathlib.Core.Bool.{true, false}
+use mathlib.Core.List.{List}
+use Prim.Native.Nat.{ℕ, _+_, _-_, _*_, _/_, _≤_}
+use native.Mathlib.Omega.{arith}
+use lib.Dec.{eqb}
+use lib.ListN.{length, take, drop}
+use borrow.Author.Tests.{eqb-true, ne-eqb, not-false}
+use Rattle.lists.specs.Tests.{pick}
+use Rattle.lists.proofs.Tests.{both-true, pick-false}
+use Rattle.line.specs.declared.systems.System.{System}
+use Rattle.line.specs.Systems.{systemOf, isSystem}
+use Rattle.line.specs.Fixed.{isVariable, placesOf, sizeOf}
+use Rattle.line.specs.Layout.{payloadAt}
+use Rattle.line.specs.Check.{fitsLength}
+use Rattle.line.proofs.SystemLaws.{fitting, payload-most, length-most}
+use Rattle.line.proofs.SettingsLaws.{block-passes}
+use Rattle.line.proofs.AreaLaws.{area-most}
+use Rattle.course.specs.declared.Place.the-variants.{At}
+use Rattle.course.specs.Course.{blocksEnd}
+use Rattle.course.proofs.CourseLaws.{end-in-area, placed-end, grid-left, grid-some, whole-small}
+use Rattle.reader.specs.declared.state.Reader.{Reader}
+use Rattle.reader.specs.Reading.{call, wordsFrom, walkFrom, readFault, readFrom, reading}
+use Rattle.reader.specs.declared.state.Event.the-variants.{Refused}
+use Rattle.reader.proofs.Ready.{Ready, at-q, in-end, words-long}
+use Rattle.reader.proofs.Stays.{walk-goes}
+use Rattle.reader.proofs.Accepts.{by-place}
+
+module _ (st : Reader) (q : ℕ) (line room : List ℕ) (at : st .place ≡ At q) (r : Ready st line room) (s : System) (row : s ≡ systemOf (st .system)) where
+  pub payload-in : s .payload ≤ s .length
+  payload-in = rw row (omega (arith, fitting (st .system) (st .mode) line (r .fit) .row .room))
+
+  -- the part that is lent: from index a + q to a + e
+  pub record Span (a e : ℕ) : Type 0 where
+    pub ends : a + e ≤ length line
+    pub inside : q ≤ e
+    pub small : length line ≤ 2304
+    pub words : take (a + e - (a + q)) (drop (a + q) line) ≡ wordsFrom st q line
+
+  pub span : (e : ℕ) → e ≡ blocksEnd (s .payload) (st .settings .block) (st .settings .flag) → Span (s .length - s .payload) e
+  unfolding wordsFrom fitsLength
+  span e is =
+      let known : isSystem (st .system) ≡ true = both-true (isSystem (st .system)) _ (r .fit) .0 in
+      let f = fitting (st .system) (st .mode) line (r .fit) in
+      let b = at-q st q line room at r in
+      let area = end-in-area (st .system) (st .settings) known (eqb-true _ 0 (not-false _ (b .clean))) in
+      let most = area-most (systemOf (st .system) .payload) (st .settings .flag) in
+      let end : e ≡ blocksEnd (systemOf (st .system) .payload) (st .settings .block) (st .settings .flag) =
+      is ∙ ap (λ (x : System). blocksEnd (x .payload) (st .settings .block) (st .settings .flag)) row in
+      let first : s .length - s .payload ≡ payloadAt (systemOf (st .system)) = ap (λ (x : System). x .length - x .payload) row in
+      let long : s .length - s .payload + e - (s .length - s .payload + q) ≡ e - q = omega arith in
+      record {
+        ends = rw first (omega (arith, end, area, most, f .row .room, f .long));
+        inside = omega (arith, end, in-end st q line room at r);
+        small = omega (arith, f .long, length-most (st .system));
+        words = ap₂ (λ (n i : ℕ). take n (drop i line)) (long ∙ ap (λ (x : ℕ). x - q) end) (ap (λ (x : ℕ). x + q) first);
+      }
+
+  -- the places of a fixed line that are left
+  pub record Grid (size places : ℕ) : Type 0 where
+    pub one : 1 ≤ size
+    pub before : q / size ≤ places
+    pub fits : (places - q / size) * size ≤ length (wordsFrom st q line)
+    pub small : size ≤ length room
+
+  pub grid : isVariable (st .settings .block) ≡ false → (size places : ℕ) → size ≡ sizeOf (st .settings .block) → places ≡ placesOf (s .payload) (st .settings .block) → Grid size places
+  unfolding fitsLength
+  grid v size places is are =
+      let known : isSystem (st .system) ≡ true = both-true (isSystem (st .system)) _ (r .fit) .0 in
+      let b = at-q st q line room at r in
+      let p = systemOf (st .system) .payload in
+      let block = st .settings .block in
+      let flag = st .settings .flag in
+      let n : places ≡ placesOf p block = are ∙ ap (λ (x : System). placesOf (x .payload) block) row in
+      let some = grid-some p block flag q v (b .placed) in
+      let left = grid-left p block flag q (placesOf p block - q / sizeOf block) v (b .placed) (omega arith) in
+      let area = end-in-area (st .system) (st .settings) known (eqb-true _ 0 (not-false _ (b .clean))) in
+      let most = area-most p flag in
+      rw (is, n)
+      (record {
+        one = some .0;
+        before = some .1;
+        fits = omega (arith, words-long st q line room at r, left);
+        small = omega (arith, whole-small p block flag v (block-passes (st .system) (st .settings) (eqb-true _ 0 (not-false _ (b .clean)))), area, most, payload-most (st .system), r .long);
+      })
+
+  -- the place after a walk is within the payload
+  pub next-small : q + walkFrom st q line room .answer .taken ≤ 1920
+  unfolding fitsLength
+  next-small =
+      let known : isSystem (st .system) ≡ true = both-true (isSystem (st .system)) _ (r .fit) .0 in
+      let b = at-q st q line room at r in
+      let g = walk-goes st q line room at r in
+      let p = systemOf (st .system) .payload in
+      let area = end-in-area (st .system) (st .settings) known (eqb-true _ 0 (not-false _ (b .clean))) in
+      let end = placed-end p (st .settings .block) (st .settings .flag) (q + walkFrom st q line room .answer .taken) (g .placed) in
+      omega (arith, end, area, area-most p (st .settings .flag), payload-most (st .system))
+
+-- ---- what the call tells
+module _ (st : Reader) (line room : List ℕ) (fault : ℕ) (is : fault ≡ readFault st (length line) (length room)) where
+  pub read-refused : (fault ≡ 0 → ⊥) → call (record { event = Refused fault false; state = st }) room ≡ reading st line room
+  unfolding reading
+  read-refused h =
+      ap (λ (n : ℕ). call (record { event = Refused n false; state = st }) room) is
+      ∙ sym (pick-false _ _ (ap (λ (n : ℕ). eqb n 0) (sym is) ∙ ne-eqb fault 0 h))
+
+  pub read-goes : fault ≡ 0 → readFrom (st .place) st line room ≡ reading st line room
+  read-goes h = sym (by-place st line room (st .place) (sym is ∙ h) refl)

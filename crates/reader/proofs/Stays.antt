@@ -1,0 +1,265 @@
+-- A possible state stays possible, whatever line and room are lent and however a call is answered: answer 2 never follows from a fresh reader.
+-- Assumes nothing.
+use mathlib.Core.Path.{_≡_, refl, sym, ap, _∙_, subst}
+use mathlib.Core.Bool.{Bool, true, false, _&&_, not}
+use mathlib.Core.List.{List, _++_}
+use mathlib.Core.Logic.{⊎-elim}
+use Prim.Native.Nat.{ℕ, zero, suc, _+_, _-_, _/_}
+use native.Mathlib.Omega.{arith}
+use lib.Dec.{eqb, leb}
+use lib.ListN.{length, getD}
+use borrow.Author.Tests.{eqb-true, not-false}
+use Rattle.lists.specs.Tests.{pick, lowest}
+use Rattle.lists.proofs.Tests.{lowest-or, not-2, or-left, both-true, and-true, picked, pick-true, pick-false, lowest-clear, clear-lowest, clear-split}
+use Rattle.line.specs.declared.settings.Settings.{Settings}
+use Rattle.line.specs.declared.check.Checked.{Checked}
+use Rattle.course.specs.declared.Place.{Place}
+use Rattle.course.specs.declared.Place.the-variants.{Shut, At}
+use Rattle.line.specs.Systems.{systemOf}
+use Rattle.line.specs.Fixed.{isVariable, placesOf, sizeOf}
+use Rattle.line.specs.Settings.{settingsFaults, settingsFault, sameSettings}
+use Rattle.line.specs.Check.{low, numberOf, settingsOf, numbered, headFaults, payloadFaults, faults, fits, lineFault, checkedFrom, checkedOf}
+use Rattle.course.specs.Course.{isAt, blocksEnd, misplaced}
+use Rattle.line.proofs.SettingsLaws.{same-block}
+use Rattle.course.proofs.CourseLaws.{start-placed, variable-placed, grid-next, grid-left, begun}
+use Rattle.reader.specs.declared.machine.Phase.{Phase}
+use Rattle.reader.specs.declared.machine.Phase.the-variants.{Idle}
+use Rattle.reader.specs.declared.machine.Met.{Met}
+use Rattle.reader.specs.declared.machine.Met.the-variants.{Nothing, Whole, Lost}
+use Rattle.reader.specs.Phases.{isBusy, misphased}
+use Rattle.reader.specs.Walk.{Walk, walkOf}
+use Rattle.reader.specs.Places.{placesIn, walkPlaces}
+use Rattle.reader.specs.declared.state.Reader.{Reader}
+use Rattle.reader.specs.declared.state.Event.{Event}
+use Rattle.reader.specs.declared.state.Event.the-variants.{Refused, Begun as BegunWith, Block, Drop, End}
+use Rattle.reader.specs.declared.state.Told.{Told}
+use Rattle.reader.specs.Jump.{jumpFrom, isZero}
+use Rattle.reader.specs.State.{capacity, fresh, impossible}
+use Rattle.reader.specs.Reading.{Call, refused, goesOn, begun as beginning, starts, wordsFrom, walkFrom, toldBy, goesFrom, readFault, readFrom, reading}
+use Rattle.reader.proofs.Kept.{and-none, walk-kept, places-along}
+use Rattle.reader.proofs.Ready.{course-of, phase-of, possible-by, Ready, ready, at-q, in-end, words-long}
+
+-- ---- a line refused
+refused-possible : (st : Reader) (n : ℕ) → impossible (refused st n .state) ≡ false
+unfolding impossible
+refused-possible st n = refl
+
+-- ---- a line begun: its number and settings are such as the line check accepts
+record Sound (system : ℕ) (c : Checked) : Type 0 where
+  range : not (leb 1 (c .number) && leb (c .number) (systemOf system .lines)) ≡ false
+  clean : settingsFault system (c .settings) ≡ 0
+
+checked-by : (system mode : ℕ) (line : List ℕ) (n : ℕ) → lineFault system mode line ≡ n → checkedFrom n line .fault ≡ 0 → Sound system (checkedFrom n line)
+unfolding lineFault faults headFaults numbered settingsFault
+checked-by system mode line (suc n) is e = absurd (omega arith)
+checked-by system mode line zero is e =
+    let row = systemOf system in
+    let t = settingsOf line in
+    let n = numberOf line in
+    let behind = payloadFaults row mode (t .block) (t .flag) line in
+    let p = picked (fits system mode line) (lowest 3 (faults row mode line)) is in
+    let k = clear-split (headFaults row line) (settingsFaults row t ++ behind) (lowest-clear 2 (faults row mode line) (p .1)) in
+    let upper = leb n (row .lines) in
+    let high = eqb (low (getD line 11 0) / 4) 0 in
+    let m = both-true (leb 1 n) (upper && high) (not-false _ (k .0 .1 .1 .1 .1 .1 .1 .0)) in
+    record {
+      range = ap not (and-true (m .0) (both-true upper high (m .1) .0));
+      clean = clear-lowest 10 (settingsFaults row t) (clear-split (settingsFaults row t) behind (k .1) .0);
+    }
+
+checked-sound : (system mode : ℕ) (line : List ℕ) → checkedOf system mode line .fault ≡ 0 → Sound system (checkedOf system mode line)
+unfolding checkedOf
+checked-sound system mode line e = checked-by system mode line (lineFault system mode line) refl e
+
+-- an open phase goes on with equal settings alone
+goes-same : (st : Reader) (n : ℕ) (t : Settings) → goesOn st n t ≡ true → sameSettings t (st .settings) ≡ true
+unfolding goesOn
+goes-same st n t e = both-true (isZero (jumpFrom (systemOf (st .system) .lines) (st .last) n)) _ e .1
+
+varied-by : (st : Reader) (t : Settings) (b : Bool) → isBusy (st .phase) ≡ b → impossible st ≡ false → sameSettings t (st .settings) ≡ true
+    → (isBusy (st .phase) && not (isVariable (t .block))) ≡ false
+varied-by st t false is e h = ap (λ (x : Bool). x && not (isVariable (t .block))) is
+varied-by st t true is e h =
+    ap (λ (x : ℕ). isBusy (st .phase) && not (isVariable x)) (same-block t (st .settings) h)
+    ∙ begun (st .system) (st .last) (st .settings) (st .place) (isBusy (st .phase)) (course-of st e) (or-left (isBusy (st .phase)) (isAt (st .place)) is) .varied
+
+kept-by : (st : Reader) (t : Settings) (g : Bool) → impossible st ≡ false → (g ≡ true → sameSettings t (st .settings) ≡ true)
+    → ((isBusy (pick g (st .phase) Idle) && not (isVariable (t .block))) ≡ false) × (misphased capacity (pick g (st .phase) Idle) ≡ false)
+unfolding pick
+kept-by st t true e h = (varied-by st t (isBusy (st .phase)) refl e (h refl), phase-of st e)
+kept-by st t false e h = (refl, refl)
+
+begin-possible : (st : Reader) (n : ℕ) (t : Settings) → impossible st ≡ false → not (leb 1 n && leb n (systemOf (st .system) .lines)) ≡ false → settingsFault (st .system) t ≡ 0
+    → impossible (beginning st n t .state) ≡ false
+unfolding beginning
+begin-possible st n t e range clean =
+    let k = kept-by st t (goesOn st n t) e (goes-same st n t) in
+    possible-by _ (record { number = n; numbered = refl; range = range; clean = ap (λ (x : ℕ). not (eqb x 0)) clean; placed = start-placed (st .system) t clean; varied = k .0 }) (k .1)
+
+told-by : (b : Bool) (x y : Told) → (b ≡ true → impossible (x .state) ≡ false) → impossible (y .state) ≡ false → impossible (pick b x y .state) ≡ false
+unfolding pick
+told-by true x y h k = h refl
+told-by false x y h k = k
+
+start-possible : (st : Reader) (mode : ℕ) (line : List ℕ) → impossible st ≡ false → impossible (starts st (checkedOf (st .system) mode line) .state) ≡ false
+unfolding starts
+start-possible st mode line e =
+    let c = checkedOf (st .system) mode line in
+    told-by (eqb (c .fault) 0) (beginning st (c .number) (c .settings)) (refused st (c .fault))
+    (λ h.
+    let s = checked-sound (st .system) mode line (eqb-true _ _ h) in
+    begin-possible st (c .number) (c .settings) e (s .range) (s .clean))
+    (refused-possible st (c .fault))
+
+-- ---- a line gone on with
+-- what a walk from place q leaves: a place, and a phase that may stand there
+pub record Goes (st : Reader) (q : ℕ) (x : Walk) : Type 0 where
+  pub placed : misplaced (systemOf (st .system) .payload) (st .settings .block) (st .settings .flag) (At (q + x .answer .taken)) ≡ false
+  pub varied : (isBusy (x .answer .phase) && not (isVariable (st .settings .block))) ≡ false
+  pub phased : misphased capacity (x .answer .phase) ≡ false
+
+module _ (st : Reader) (q : ℕ) (line room : List ℕ) (at : st .place ≡ At q) (r : Ready st line room) where
+  abbrev payload : ℕ
+  payload = systemOf (st .system) .payload
+
+  abbrev block : ℕ
+  block = st .settings .block
+
+  abbrev end : ℕ
+  end = blocksEnd (systemOf (st .system) .payload) (st .settings .block) (st .settings .flag)
+
+  variable-goes : isVariable (st .settings .block) ≡ true → Goes st q (walkOf (st .mode) (st .phase) (wordsFrom st q line) room)
+  variable-goes v =
+      let k = walk-kept (st .mode) (st .phase) (wordsFrom st q line) room in
+      let x = walkOf (st .mode) (st .phase) (wordsFrom st q line) room in
+      record {
+        placed = variable-placed payload block (st .settings .flag) (q + x .answer .taken) v (omega (arith, k .at-most, words-long st q line room at r, in-end st q line room at r));
+        varied = and-none (isBusy (x .answer .phase)) (not (isVariable block)) (ap not v);
+        phased =
+            subst (λ (n : ℕ). misphased n (x .answer .phase) ≡ false) (r .long)
+            (k .phased (subst (λ (n : ℕ). misphased n (st .phase) ≡ false) (sym (r .long)) (phase-of st (r .state))));
+      }
+
+  fixed-goes : isVariable (st .settings .block) ≡ false
+      → Goes st q (walkPlaces (st .mode) (st .phase) (placesIn (sizeOf (st .settings .block)) (placesOf (systemOf (st .system) .payload) (st .settings .block) - q / sizeOf (st .settings .block)) (wordsFrom st q line)) room)
+  fixed-goes v =
+      let flag = st .settings .flag in
+      let size = sizeOf block in
+      let n = placesOf payload block - q / size in
+      let all = grid-left payload block flag q n v (at-q st q line room at r .placed) (omega arith) in
+      let k = places-along (st .mode) (st .phase) size n (wordsFrom st q line) room (omega (arith, words-long st q line room at r, all)) in
+      let next = grid-next payload block flag q (k .count) v (at-q st q line room at r .placed) (grid-left payload block flag q (k .count) v (at-q st q line room at r .placed) (k .at-most)) in
+      record {
+        placed = subst (λ (j : ℕ). misplaced payload block flag (At (q + j)) ≡ false) (sym (k .whole)) next;
+        varied = ap (λ (p : Phase). isBusy p && not (isVariable block)) (k .phase) ∙ at-q st q line room at r .varied;
+        phased = ap (misphased capacity) (k .phase) ∙ phase-of st (r .state);
+      }
+
+  pub walk-goes : Goes st q (walkFrom st q line room)
+  unfolding walkFrom
+  walk-goes = go (isVariable block) refl
+    where
+      go : (b : Bool) → isVariable block ≡ b
+          → Goes st q (pick (isVariable block) (walkOf (st .mode) (st .phase) (wordsFrom st q line) room) (walkPlaces (st .mode) (st .phase) (placesIn (sizeOf block) (placesOf payload block - q / sizeOf block) (wordsFrom st q line)) room))
+      go true v = subst (Goes st q) (sym (pick-true _ _ v)) (variable-goes v)
+      go false v = subst (Goes st q) (sym (pick-false _ _ v)) (fixed-goes v)
+
+  told-possible : (i : ℕ) (p : Phase) (met : Met) → misplaced (systemOf (st .system) .payload) (st .settings .block) (st .settings .flag) (At i) ≡ false
+      → (isBusy p && not (isVariable (st .settings .block))) ≡ false → misphased capacity p ≡ false → impossible (toldBy st i p met .state) ≡ false
+  told-possible i p Nothing x y z =
+      let b = at-q st q line room at r in
+      possible-by _ (record { number = b .number; numbered = b .numbered; range = b .range; clean = b .clean; placed = refl; varied = y }) z
+  told-possible i p (Whole k n) x y z =
+      let b = at-q st q line room at r in
+      possible-by _ (record { number = b .number; numbered = b .numbered; range = b .range; clean = b .clean; placed = x; varied = y }) z
+  told-possible i p (Lost n) x y z =
+      let b = at-q st q line room at r in
+      possible-by _ (record { number = b .number; numbered = b .numbered; range = b .range; clean = b .clean; placed = x; varied = y }) z
+
+  on-possible : impossible (goesFrom st q (walkFrom st q line room) .told .state) ≡ false
+  on-possible = let g = walk-goes in told-possible _ _ (walkFrom st q line room .answer .met) (g .placed) (g .varied) (g .phased)
+
+-- ---- a reading call
+from-place : (p : Place) (st : Reader) (line room : List ℕ) → st .place ≡ p → Ready st line room → impossible (readFrom p st line room .told .state) ≡ false
+from-place Shut st line room at r = start-possible st (st .mode) line (r .state)
+from-place (At q) st line room at r = on-possible st q line room at r
+
+call-by : (b : Bool) (x y : Call) → (b ≡ true → impossible (x .told .state) ≡ false) → impossible (y .told .state) ≡ false → impossible (pick b x y .told .state) ≡ false
+unfolding pick
+call-by true x y h k = h refl
+call-by false x y h k = k
+
+pub read-possible : (st : Reader) (line room : List ℕ) → impossible st ≡ false → impossible (reading st line room .told .state) ≡ false
+unfolding reading
+read-possible st line room e =
+    call-by (eqb (readFault st (length line) (length room)) 0) (readFrom (st .place) st line room) _
+    (λ h. from-place (st .place) st line room refl (ready st line room (eqb-true _ _ h))) e
+
+-- ---- any calls, from a fresh reader on
+pub fresh-possible : (system mode : ℕ) → impossible (fresh system mode) ≡ false
+unfolding impossible
+fresh-possible system mode = refl
+
+pub data Reached (system mode : ℕ) : Reader → Type 0 where
+  is-fresh : Reached system mode (fresh system mode)
+  reads : {st : Reader} (line room : List ℕ) → Reached system mode st → Reached system mode (reading st line room .told .state)
+
+pub reached-possible : (system mode : ℕ) (st : Reader) → Reached system mode st → impossible st ≡ false
+reached-possible system mode st is-fresh = fresh-possible system mode
+reached-possible system mode _ (reads {st} line room r) = read-possible st line room (reached-possible system mode st r)
+
+-- ---- answer 2 is of an impossible state alone
+-- the number of a refusal, and 0 of what is none
+abbrev refusal : Event → ℕ
+refusal (Refused n d) = n
+refusal (BegunWith n j d) = 0
+refusal (Block k n) = 0
+refusal (Drop n) = 0
+refusal End = 0
+
+fault-from : (n : ℕ) (line : List ℕ) → checkedFrom n line .fault ≡ n
+fault-from zero line = refl
+fault-from (suc n) line = refl
+
+line-2 : (system mode : ℕ) (line : List ℕ) → lineFault system mode line ≡ 2 → ⊥
+unfolding lineFault
+line-2 system mode line =
+    not-2 (fits system mode line) (lowest 3 (faults (systemOf system) mode line)) 1
+    (λ e. ⊎-elim (λ z. omega arith) (λ h. omega arith) (lowest-or 3 (faults (systemOf system) mode line))) (λ z. omega arith)
+
+refusal-by : (b : Bool) (x y : Told) → (refusal (x .event) ≡ 2 → ⊥) → (refusal (y .event) ≡ 2 → ⊥) → refusal (pick b x y .event) ≡ 2 → ⊥
+unfolding pick
+refusal-by true x y h k e = h e
+refusal-by false x y h k e = k e
+
+start-2 : (st : Reader) (mode : ℕ) (line : List ℕ) → refusal (starts st (checkedOf (st .system) mode line) .event) ≡ 2 → ⊥
+unfolding starts beginning checkedOf
+start-2 st mode line =
+    refusal-by _ _ _ (λ z. omega arith) (λ z. line-2 (st .system) mode line (sym (fault-from (lineFault (st .system) mode line) line) ∙ z))
+
+told-2 : (st : Reader) (q : ℕ) (p : Phase) (met : Met) → refusal (toldBy st q p met .event) ≡ 2 → ⊥
+told-2 st q p Nothing e = omega arith
+told-2 st q p (Whole k n) e = omega arith
+told-2 st q p (Lost n) e = omega arith
+
+from-2 : (p : Place) (st : Reader) (line room : List ℕ) → refusal (readFrom p st line room .told .event) ≡ 2 → ⊥
+from-2 Shut st line room = start-2 st (st .mode) line
+from-2 (At q) st line room = told-2 st _ _ (walkFrom st q line room .answer .met)
+
+call-2 : (b : Bool) (x y : Call) → (refusal (x .told .event) ≡ 2 → ⊥) → (refusal (y .told .event) ≡ 2 → ⊥) → refusal (pick b x y .told .event) ≡ 2 → ⊥
+unfolding pick
+call-2 true x y h k e = h e
+call-2 false x y h k e = k e
+
+fault-2 : (st : Reader) (long room : ℕ) → impossible st ≡ false → readFault st long room ≡ 2 → ⊥
+unfolding readFault
+fault-2 st long room e = not-2 _ 1 _ (λ z. omega arith) (λ z. absurd (let k : 0 ≡ 2 = sym (pick-false 2 0 e) ∙ z in omega arith))
+
+pub never-2 : (st : Reader) → impossible st ≡ false → (line room : List ℕ) (d : Bool) → reading st line room .told .event ≡ Refused 2 d → ⊥
+unfolding reading
+never-2 st p line room d e =
+    call-2 (eqb (readFault st (length line) (length room)) 0) (readFrom (st .place) st line room) _ (from-2 (st .place) st line room) (fault-2 st (length line) (length room) p)
+    (ap refusal e)
+
+pub fresh-never-2 : (system mode : ℕ) (st : Reader) → Reached system mode st → (line room : List ℕ) (d : Bool) → reading st line room .told .event ≡ Refused 2 d → ⊥
+fresh-never-2 system mode st r = never-2 st (reached-possible system mode st r)

@@ -1,0 +1,13 @@
+-- `reader::begin::refuse` meets its contract. Assumes nothing.
+use borrow.Author.Needs.{needs}
+use Rattle.reader.proofs.begin.refuse.Statement.{statement}
+use Rattle.reader.proofs.begin.refuse.Tie as tie
+
+is-busy-requires : tie.Need-is-busy-requires
+is-busy-requires c κs = search needs
+
+returns : tie.Need-returns
+returns c = simp (c .is-busy .ensures)
+
+pub refuse-spec : {M : Type 1} → statement M
+refuse-spec = tie.close (tie.spec is-busy-requires returns)

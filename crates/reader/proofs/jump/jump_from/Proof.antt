@@ -1,0 +1,44 @@
+-- `reader::jump::jump_from` meets its contract. Assumes nothing.
+use mathlib.Core.Path.{_≡_, sym, ap, _∙_}
+use Prim.Native.Nat.{ℕ}
+use lib.IntN.{subℕ}
+use mir.Syntax.{w32}
+use mir.Val.{toZ, ofZ}
+use Rattle.course.specs.declared.Last.{Last}
+use Rattle.reader.specs.declared.jump.Jump.the-variants.{Known}
+use Rattle.reader.specs.Jump.{folded, jumpFrom}
+use borrow.Author.Needs.{needs}
+use Rattle.reader.proofs.jump.jump_from.Statement.{statement}
+use Rattle.reader.proofs.jump.jump_from.Tie as tie
+
+enum-told : tie.Need-enum-told
+enum-told c = search needs
+
+enum-known-last : tie.Need-enum-known-last
+enum-known-last c = search needs
+
+next-number-requires : tie.Need-next-number-requires
+next-number-requires c κs = search needs
+
+folded-less-requires : tie.Need-folded-less-requires
+folded-less-requires c κs = search needs
+
+returns : tie.Need-returns
+returns c = search needs
+
+returns-2 : tie.Need-returns-2
+returns-2 c =
+    let a = c .before .before .before .before .before .args in
+    let e : toZ w32 (ofZ w32 (c .folded-less .result)) ≡ c .folded-less .result = search needs in
+    ap Known (e ∙ c .folded-less .ensures ∙ ap (λ (k : ℕ). folded (a .lines) (subℕ (a .number) k)) (c .before .next-number .ensures)) ∙ sym (ap (λ (x : Last). jumpFrom (a .lines) x (a .number)) (c .before .before .before .last .given .1))
+
+pub jump-from-spec : {M : Type 1} → statement M
+jump-from-spec =
+    tie.close
+    (tie.spec
+    enum-told
+    enum-known-last
+    next-number-requires
+    folded-less-requires
+    returns
+    returns-2)

@@ -1,0 +1,180 @@
+-- `reader::read::walk_from` meets its contract. Assumes nothing.
+use mathlib.Core.Path.{_≡_, sym, ap, ap₂, _∙_, subst}
+use mathlib.Core.Bool.{false}
+use mathlib.Core.List.{List}
+use Prim.Native.Nat.{ℕ, _-_, _*_, _/_, _≤_}
+use native.Mathlib.Omega.{arith}
+use lib.ListN.{length}
+use Rattle.lists.proofs.Tests.{pick-true, pick-false}
+use Rattle.line.specs.declared.systems.System.{System}
+use Rattle.line.specs.Fixed.{isVariable, placesOf}
+use Rattle.reader.specs.Walk.{walkOf}
+use Rattle.reader.specs.Places.{placesIn, walkPlaces}
+use Rattle.reader.specs.Reading.{walkFrom, wordsFrom}
+use Rattle.reader.proofs.Ready.{Ready, ready}
+use Rattle.reader.proofs.ReadLaws.{payload-in, Span, span, Grid, grid}
+use borrow.Author.Needs.{needs}
+use Rattle.reader.proofs.read.walk_from.Statement.{statement}
+use Rattle.reader.proofs.read.walk_from.Tie as tie
+
+-- neither 1 nor 2
+is-ready : (x : tie.After-system-of) → let g = x .before .before .before .args in Ready (g .st) (g .line .now) (g .room .now)
+is-ready x = let g = x .before .before .before .args in ready (g .st) (g .line .now) (g .room .now) (x .before .before .before .pre .1)
+
+-- the part that is lent
+spanned : (b : tie.After-blocks-end) →
+    let x = b .before .before .before in
+    let g = x .before .before .before .args in
+    let s = x .system-of .result in
+    Span (g .st) (g .q) (g .line .now) (g .room .now) (x .before .before .before .pre .0) (is-ready x) s (x .system-of .ensures) (s .length - s .payload) (b .blocks-end .result)
+spanned b =
+    let x = b .before .before .before in
+    span _ _ _ _ _ (is-ready x) (x .system-of .result) (x .system-of .ensures) (b .blocks-end .result) (b .blocks-end .ensures)
+
+-- a fixed line's places
+fixed-line : (b : tie.Else1) →
+    let g = b .before .before .before .before .before .before .before .before .args in
+    isVariable (g .st .settings .block) ≡ false
+fixed-line b = sym (b .before .is-variable .ensures) ∙ b .if1 .left
+
+gridded : (n : tie.After-places-of) →
+    let x = n .before .before .before .before .before .before .before in
+    let g = x .before .before .before .args in
+    Grid (g .st) (g .q) (g .line .now) (g .room .now) (x .before .before .before .pre .0) (is-ready x) (x .system-of .result) (x .system-of .ensures)
+    (n .before .size-of .result) (n .places-of .result)
+gridded n =
+    let x = n .before .before .before .before .before .before .before in
+    grid _ _ _ _ _ (is-ready x) (x .system-of .result) (x .system-of .ensures) (fixed-line (n .before .before)) (n .before .size-of .result) (n .places-of .result)
+    (n .before .size-of .ensures) (n .places-of .ensures)
+
+system-of-requires : tie.Need-system-of-requires
+system-of-requires c κs = search needs
+
+sub-a : tie.Need-sub-a
+sub-a c = payload-in _ _ _ _ (c .before .before .before .before .before .pre .0) (is-ready (c .before .before)) _ (c .before .before .system-of .ensures)
+
+blocks-end-requires : tie.Need-blocks-end-requires
+blocks-end-requires c κs = search needs
+
+add-e : tie.Need-add-e
+add-e c = let z = spanned c in omega (arith, z .ends, z .small)
+
+add-i : tie.Need-add-i
+add-i c = let z = spanned c in omega (arith, z .ends, z .small, z .inside)
+
+is-variable-requires : tie.Need-is-variable-requires
+is-variable-requires c κs = search needs
+
+mul-walk : tie.Need-mul-walk
+mul-walk c = let z = spanned (c .before .before) in omega (arith, z .ends, z .small, z .inside)
+
+sub-walk : tie.Need-sub-walk
+sub-walk c = let z = spanned (c .before .before) in omega (arith, z .inside)
+
+part-walk-start : tie.Need-part-walk-start
+part-walk-start c = let z = spanned (c .before .before) in omega (arith, z .inside)
+
+part-walk-end : tie.Need-part-walk-end
+part-walk-end c = spanned (c .before .before) .ends
+
+walk-requires : tie.Need-walk-requires
+walk-requires c κs = search needs
+
+same-length : tie.Need-same-length
+same-length c = search needs
+
+returns : tie.Need-returns
+unfolding walkFrom
+returns c =
+    let v = c .before .before .before .before .before .before in
+    let b = v .before in
+    let g = b .before .before .before .before .before .before .args in
+    c .before .before .walk .ensures
+    ∙ ap (λ (ws : List ℕ). walkOf (g .st .mode) (g .st .phase) ws (g .room .now)) (spanned b .words)
+    ∙ sym (pick-true _ _ (sym (v .is-variable .ensures) ∙ c .before .before .before .before .before .if1 .taken))
+
+size-of-requires : tie.Need-size-of-requires
+size-of-requires c κs = search needs
+
+places-of-requires : tie.Need-places-of-requires
+places-of-requires c κs = search needs
+
+div-places : tie.Need-div-places
+div-places c = let z = gridded c in omega (arith, z .one)
+
+sub-places : tie.Need-sub-places
+sub-places c = gridded c .before
+
+cast-walk-places : tie.Need-cast-walk-places
+cast-walk-places c = search needs
+
+cast-walk-places-2 : tie.Need-cast-walk-places-2
+cast-walk-places-2 c = search needs
+
+mul-walk-places : tie.Need-mul-walk-places
+mul-walk-places c = let z = spanned (c .before .before .before .before) in omega (arith, z .ends, z .small, z .inside)
+
+sub-walk-places : tie.Need-sub-walk-places
+sub-walk-places c = let z = spanned (c .before .before .before .before) in omega (arith, z .inside)
+
+part-walk-places-start : tie.Need-part-walk-places-start
+part-walk-places-start c = let z = spanned (c .before .before .before .before) in omega (arith, z .inside)
+
+part-walk-places-end : tie.Need-part-walk-places-end
+part-walk-places-end c = spanned (c .before .before .before .before) .ends
+
+walk-places-requires : tie.Need-walk-places-requires
+walk-places-requires c κs =
+    let n = c .before .before in
+    let z = gridded n in
+    let w = spanned (n .before .before .before .before) .words in
+    let q = n .before .before .before .before .before .before .before .before .before .before .args .q in
+    (z .one, subst (λ (ws : List ℕ). (n .places-of .result - q / n .before .size-of .result) * n .before .size-of .result ≤ length ws) (sym w) (z .fits), z .small)
+
+same-length-2 : tie.Need-same-length-2
+same-length-2 c = search needs
+
+returns-2 : tie.Need-returns-2
+unfolding walkFrom
+returns-2 c =
+    let n = c .before .before .before .before .before in
+    let b = n .before .before .before .before in
+    let x = b .before .before .before in
+    let g = x .before .before .before .args in
+    let p = n .places-of .ensures ∙ ap (λ (y : System). placesOf (y .payload) (g .st .settings .block)) (x .system-of .ensures) in
+    let k : ℕ → ℕ → List ℕ → _ = λ size places ws. walkPlaces (g .st .mode) (g .st .phase) (placesIn size (places - g .q / size) ws) (g .room .now) in
+    c .before .before .walk-places .ensures
+    ∙ ap (k (n .before .size-of .result) (n .places-of .result)) (spanned b .words)
+    ∙ ap₂ (λ (size places : ℕ). k size places (wordsFrom (g .st) (g .q) (g .line .now))) (n .before .size-of .ensures) p
+    ∙ sym (pick-false _ _ (fixed-line (n .before .before)))
+
+pub walk-from-spec : {M : Type 1} → statement M
+walk-from-spec =
+    tie.close
+    (tie.spec
+    system-of-requires
+    sub-a
+    blocks-end-requires
+    add-e
+    add-i
+    is-variable-requires
+    mul-walk
+    sub-walk
+    part-walk-start
+    part-walk-end
+    walk-requires
+    same-length
+    returns
+    size-of-requires
+    places-of-requires
+    div-places
+    sub-places
+    cast-walk-places
+    cast-walk-places-2
+    mul-walk-places
+    sub-walk-places
+    part-walk-places-start
+    part-walk-places-end
+    walk-places-requires
+    same-length-2
+    returns-2)

@@ -1,0 +1,87 @@
+// Fixed lines: place after place, to the first report or to the last place.
+use crate::machine::Met;
+use crate::machine::Phase;
+use crate::walk;
+use crate::walk::Walked;
+use words::class;
+use words::class::Class;
+ghost use mathlib.Core.Path.{_≡_};
+ghost use mathlib.Core.List.{map};
+ghost use Prim.Native.Nat.{_+_, _*_, _≤_};
+ghost use lib.ListN.{length};
+ghost use Rattle.words.specs.Modes.{valueOf};
+ghost use Rattle.reader.specs.Walk.{leaves};
+ghost use Rattle.reader.specs.Places.{placesIn, metAt, placeRoom, walkPlaces};
+
+// What a place of that type word and n values reports: nothing where it is empty.
+fn met_at(w: u16, n: usize) -> Met
+    ensures { λ r. ⌜ r ≡ metAt w n ⌝ }
+{
+    let c = class::class_of(w);
+    let kind = (w % 256) as u8;
+    match c {
+        Class::Byte => {
+            if kind == 0 {
+                return Met::Nothing;
+            }
+            Met::Whole {
+                kind: kind,
+                length: n,
+            }
+        }
+        Class::Other => Met::Lost { reason: 2 },
+        Class::Separator => Met::Lost { reason: 2 },
+        Class::Ending => Met::Lost { reason: 2 },
+        Class::Illegal => Met::Lost { reason: 2 },
+    }
+}
+
+// A block's values into the room, from 0.
+fn put_place(mode: u8, met: Met, words: &[u16], room: &mut [u16])
+    requires { ⌜ length (now words) ≤ length (now room) ⌝ }
+    ensures { λ _. ⌜ now (room .exit) ≡ placeRoom met (map (valueOf mode) (now (words .entry))) (now (room .entry)) ⌝ }
+{
+    match met {
+        Met::Nothing => {}
+        Met::Whole { kind: _, length: _ } => {
+            let n = words.len();
+            walk::copy_values(mode, words, &mut room[..n]);
+        }
+        Met::Lost { reason: _ } => {}
+    }
+}
+
+// The walk over that many places of that size.
+pub(crate) fn walk_places(
+    mode: u8,
+    phase: Phase,
+    size: usize,
+    places: usize,
+    words: &[u16],
+    room: &mut [u16],
+) -> Walked
+    requires { ⌜ (1 ≤ size) × (places * size ≤ length (now words)) × (size ≤ length (now room)) ⌝ }
+    ensures { λ r. ⌜ leaves r (now (room .exit)) ≡ walkPlaces mode phase (placesIn size places (now (words .entry))) (now (room .entry)) ⌝ }
+{
+    let mut k = 0;
+    let mut i = 0;
+    while k < places {
+        let e = i + size;
+        let met = met_at(words[i], size - 1);
+        if !walk::is_nothing(met) {
+            put_place(mode, met, &words[i + 1..e], room);
+            return Walked {
+                phase: phase,
+                met: met,
+                taken: e,
+            };
+        }
+        i = e;
+        k += 1;
+    }
+    Walked {
+        phase: phase,
+        met: Met::Nothing,
+        taken: i,
+    }
+}
