@@ -143,6 +143,11 @@ def settings(code, aai, block, flag, seed):
     return [code, aai, block, flag, *v, 0, 0, 0, 0, 0]
 
 
+def settings_by(code, aai, block, flag, reserved, to, source):
+    """The same with a seed for each address, and the last reserved byte."""
+    return [code, aai, block, flag, *(x & 0xFF for x in made(to, 16) + made(source, 16)), 0, 0, 0, 0, reserved]
+
+
 def header(number, values, line_crc, header_crc):
     """The 53 words; each CRC is a function of the words it covers."""
     code, aai, block, flag = values[:4]

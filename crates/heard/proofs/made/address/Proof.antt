@@ -1,0 +1,56 @@
+-- `heard::made::address` meets its contract. Assumes nothing.
+use Prim.Native.Nat.{_≤_, _-_}
+use lib.ListN.{length}
+use mathlib.Core.Path.{_≡_}
+use borrow.Author.Needs.{needs}
+use Rattle.heard.proofs.made.address.Statement.{statement}
+use Rattle.heard.proofs.made.address.Tie as tie
+
+abbrev Inv-loop : tie.InvT-loop
+Inv-loop seed s₀ x₀ i₀ s x i = (i ≤ 16) × (length s ≡ 16)
+
+abbrev μ-loop : tie.MeasureT-loop
+μ-loop seed s₀ x₀ i₀ s x i = 16 - i
+
+loop-holds : tie.Need-loop-holds Inv-loop μ-loop
+loop-holds c = search needs
+
+next-requires : tie.Need-next-requires Inv-loop μ-loop
+next-requires c κs = search needs
+
+upper-requires : tie.Need-upper-requires Inv-loop μ-loop
+upper-requires c κs = search needs
+
+cast-s : tie.Need-cast-s Inv-loop μ-loop
+cast-s c = search needs
+
+array-write-s : tie.Need-array-write-s Inv-loop μ-loop
+array-write-s c = search needs
+
+add-i : tie.Need-add-i Inv-loop μ-loop
+add-i c = search needs
+
+loop-less : tie.Need-loop-less Inv-loop μ-loop
+loop-less c = search needs
+
+loop-again : tie.Need-loop-again Inv-loop μ-loop
+loop-again c = search needs
+
+returns : tie.Need-returns Inv-loop μ-loop
+returns c = search needs
+
+pub address-spec : {M : Type 1} → statement M
+address-spec =
+    tie.close
+    (tie.spec
+    Inv-loop
+    μ-loop
+    loop-holds
+    next-requires
+    upper-requires
+    cast-s
+    array-write-s
+    add-i
+    loop-less
+    loop-again
+    returns)

@@ -1,0 +1,87 @@
+// Events in a row: `refused ANSWER`, `begun NUMBER JUMP`, `block TYPE LENGTH REGISTER`, `drop REASON`, `end`. JUMP is a signed
+// number or `unknown`; `dropped` follows a refused or a begun that says so. REGISTER is the CRC register after the block's words.
+use crate::lent;
+use crate::rows;
+use reader::jump::Jump;
+use reader::state::Event;
+use words::crc;
+
+fn put_jump(jump: Jump) {
+    match jump {
+        Jump::Unknown => rows::say(b" unknown"),
+        Jump::Known(d) => put_signed(d),
+    }
+}
+
+// A number from -9999 to 9999; no jump is another.
+fn put_signed(d: i32) {
+    if d < -9999 {
+        return rows::say(b" far");
+    }
+    if 9999 < d {
+        return rows::say(b" far");
+    }
+    if d < 0 {
+        return rows::put_minus((0 - d) as u64);
+    }
+    rows::put(d as u64);
+}
+
+fn put_dropped(dropped: bool) {
+    if dropped {
+        rows::say(b" dropped");
+    }
+}
+
+// A block that stands at the start of the room.
+fn put_block(kind: u8, length: usize, room: &[u16]) {
+    let n = lent::within(length, room.len());
+    rows::say(b" block");
+    rows::put(kind as u64);
+    rows::put(length as u64);
+    rows::put(crc::crc_of(262143, &room[..n]) as u64);
+}
+
+pub(crate) fn put_event(e: Event, room: &[u16]) {
+    match e {
+        Event::Refused { answer, dropped } => {
+            rows::say(b" refused");
+            rows::put(answer as u64);
+            put_dropped(dropped);
+        }
+        Event::Begun {
+            number,
+            jump,
+            dropped,
+        } => {
+            rows::say(b" begun");
+            rows::put(number as u64);
+            put_jump(jump);
+            put_dropped(dropped);
+        }
+        Event::Block { kind, length } => put_block(kind, length, room),
+        Event::Drop { reason } => {
+            rows::say(b" drop");
+            rows::put(reason as u64);
+        }
+        Event::End => rows::say(b" end"),
+    }
+}
+
+// After these events a row's calls stop.
+pub(crate) fn is_last(e: Event) -> bool {
+    match e {
+        Event::Refused {
+            answer: _,
+            dropped: _,
+        } => true,
+        Event::Begun {
+            number: _,
+            jump: _,
+            dropped: _,
+        } => false,
+        Event::Block { kind: _, length: _ } => false,
+        Event::Drop { reason: _ } => false,
+        Event::End => true,
+    }
+}

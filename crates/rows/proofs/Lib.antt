@@ -1,0 +1,3 @@
+pub mod BytesLaws
+pub mod TextLaws
+pub mod RowLaws

@@ -1,0 +1,10 @@
+-- Words from bytes: two bytes a word, low byte first.
+-- Assumes nothing.
+use Prim.Native.Nat.{ℕ, _+_, _*_}
+use mathlib.Core.List.{List, [], _∷_}
+
+-- a last byte without its fellow makes no word
+abbrev pub wordsOf : List ℕ → List ℕ
+wordsOf [] = []
+wordsOf (a ∷ []) = []
+wordsOf (a ∷ b ∷ s) = (a + b * 256) ∷ wordsOf s

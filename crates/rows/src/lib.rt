@@ -1,0 +1,172 @@
+// The listing's rows: words from the bytes that come in, and the text of an event.
+use reader::jump::Jump;
+use reader::state::Event;
+ghost use mathlib.Core.Path.{_≡_};
+ghost use mathlib.Core.List.{_++_};
+ghost use Prim.Native.Nat.{_+_, _*_, min};
+ghost use lib.IntN.{natAbs};
+ghost use lib.ListN.{length};
+ghost use lib.Seq.{paste};
+ghost use Rattle.rows.specs.Text.{decimal, signed, droppedText, space, newline};
+ghost use Rattle.rows.specs.Rows.{jumpText, rowOf};
+ghost use Rattle.rows.specs.Bytes.{wordsOf};
+ghost use Rattle.rows.specs.Cuts.{none, put, added};
+
+// A row: its text stands in the first `length` bytes, zeros behind.
+pub struct Row {
+    pub bytes: [u8; 48],
+    pub length: usize,
+}
+
+// A word of two bytes.
+fn joined(low: u8, high: u8) -> u16
+    ensures { λ r. ⌜ r ≡ low + high * 256 ⌝ }
+{
+    low as u16 + high as u16 * 256
+}
+
+// The words of the bytes, so many as there are whole pairs of bytes and room for; the rest of out stays.
+pub fn words_of(bytes: &[u8], out: &mut [u16])
+    ensures { λ _. ⌜ now (out .exit) ≡ paste (now (out .entry)) 0 (wordsOf (now (bytes .entry))) (min (length (wordsOf (now (bytes .entry)))) (length (now (out .entry)))) ⌝ }
+{
+    let n = lists::at_most(bytes.len() / 2, out.len());
+    let mut i = 0;
+    while i < n {
+        out[i] = joined(bytes[2 * i], bytes[2 * i + 1]);
+        i += 1;
+    }
+}
+
+// No text yet.
+fn empty() -> Row
+    ensures { λ r. ⌜ r ≡ none ⌝ }
+{
+    Row {
+        bytes: [0; 48],
+        length: 0,
+    }
+}
+
+// One byte more. No event's text comes to where a byte has no place.
+fn add_byte(row: Row, b: u8) -> Row
+    ensures { λ r. ⌜ r ≡ put row b ⌝ }
+{
+    let mut bytes = row.bytes;
+    let n = row.length;
+    if n < 48 {
+        bytes[n] = b;
+        return Row {
+            bytes: bytes,
+            length: n + 1,
+        };
+    }
+    row
+}
+
+// The bytes of a text.
+fn add_text(row: Row, text: &[u8]) -> Row
+    ensures { λ r. ⌜ r ≡ added row (now (text .entry)) ⌝ }
+{
+    let mut out = row;
+    let mut i = 0;
+    while i < text.len() {
+        out = add_byte(out, text[i]);
+        i += 1;
+    }
+    out
+}
+
+// A number in decimal: a call for its tenth adds the digits in front of the last.
+fn add_decimal(row: Row, n: u64) -> Row
+    ensures { λ r. ⌜ r ≡ added row (decimal n) ⌝ }
+{
+    if n < 10 {
+        return add_byte(row, 48 + n as u8);
+    }
+    let front = add_decimal(row, n / 10);
+    add_byte(front, 48 + (n % 10) as u8)
+}
+
+// How far from 0. The least number has no opposite in 32 bits.
+fn size(d: i32) -> u64
+    ensures { λ r. ⌜ r ≡ natAbs d ⌝ }
+{
+    if d < 0 {
+        return (0 - d as i64) as u64;
+    }
+    d as u64
+}
+
+// A number that may be below 0.
+fn add_signed(row: Row, d: i32) -> Row
+    ensures { λ r. ⌜ r ≡ added row (signed d) ⌝ }
+{
+    if d < 0 {
+        let minus = add_byte(row, b'-');
+        return add_decimal(minus, size(d));
+    }
+    add_decimal(row, size(d))
+}
+
+// A space and a jump.
+fn add_jump(row: Row, jump: Jump) -> Row
+    ensures { λ r. ⌜ r ≡ added row (space ++ jumpText jump) ⌝ }
+{
+    let behind = add_byte(row, b' ');
+    match jump {
+        Jump::Unknown => add_text(behind, b"unknown"),
+        Jump::Known(d) => add_signed(behind, d),
+    }
+}
+
+// What every row ends with.
+fn end_row(row: Row, dropped: bool) -> Row
+    ensures { λ r. ⌜ r ≡ added row (droppedText dropped ++ newline) ⌝ }
+{
+    if dropped {
+        return add_text(row, b" dropped\n");
+    }
+    add_text(row, b"\n")
+}
+
+// What every row but `end` begins with.
+fn begin_row(name: &[u8], n: u64) -> Row
+    ensures { λ r. ⌜ r ≡ added none (now (name .entry) ++ decimal n) ⌝ }
+{
+    let named = add_text(empty(), name);
+    add_decimal(named, n)
+}
+
+// The row of an event.
+pub fn row_of(event: Event) -> Row
+    ensures { λ r. ⌜ r ≡ rowOf event ⌝ }
+{
+    match event {
+        Event::Refused { answer, dropped } => {
+            let row = begin_row(b"refused ", answer as u64);
+            end_row(row, dropped)
+        }
+        Event::Begun {
+            number,
+            jump,
+            dropped,
+        } => {
+            let row = begin_row(b"begun ", number as u64);
+            let told = add_jump(row, jump);
+            end_row(told, dropped)
+        }
+        Event::Block { kind, length } => {
+            let row = begin_row(b"block ", kind as u64);
+            let told = add_decimal(add_byte(row, b' '), length as u64);
+            end_row(told, false)
+        }
+        Event::Drop { reason } => {
+            let row = begin_row(b"drop ", reason as u64);
+            end_row(row, false)
+        }
+        Event::End => {
+            let row = add_text(empty(), b"end");
+            end_row(row, false)
+        }
+    }
+}

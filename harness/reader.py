@@ -1,0 +1,156 @@
+"""The reader of 01, "The reader, step by step", written from 01 and not from our code."""
+from answers import VARIABLE, answer, fits, is_byte
+from words import settings_fault
+
+ROOM = 16384
+IDLE, TYPE = ("idle",), ("type",)  # the others: ("count", type, bytes so far ..), ("data", type, announced, collected)
+
+
+class Reader:
+    """Its state has 01's names. A call's event is a tuple: ("refused", answer, dropped), ("begun", number, jump or None, dropped),
+    ("block", type, length), ("drop", reason) or ("end",)."""
+
+    def __init__(self, scope, system, mode):
+        self.scope, self.system, self.mode = scope, system, mode
+        self.last = None  # the last accepted line number
+        self.settings = [0] * 41  # as words.settings gives them
+        self.place = None  # in the begun line
+        self.phase = IDLE
+
+    def read(self, line, room):
+        """A reading call."""
+        if not fits(self.scope, self.system, self.mode, line) or len(room) != ROOM:
+            return "refused", 1, False
+        if self.impossible():
+            return "refused", 2, False
+        return self.begin(line) if self.place is None else self.go_on(line, room)
+
+    def end(self):
+        """How many words of the payload blocks may stand in, and how many a fixed block has (variable: 1)."""
+        payload = self.scope.systems[self.system][1]
+        block, flag = self.settings[2:4]
+        if block == VARIABLE:
+            return payload - 2 * flag, 1
+        size, at270, at360 = self.scope.fixed[block & 0x3F]
+        return size * (at270 if payload == 1440 else at360), size
+
+    def impossible(self):
+        if self.last is None:
+            return self.phase != IDLE or self.place is not None
+        if not 1 <= self.last <= self.scope.systems[self.system][2] or settings_fault(self.scope, self.system, self.settings):
+            return True
+        end, size = self.end()
+        if self.place is not None and (self.place > end or self.place % size):
+            return True
+        if self.phase != IDLE and self.settings[2] != VARIABLE:
+            return True
+        if self.phase[0] == "count":
+            return len(self.phase) - 2 >= 4
+        if self.phase[0] == "data":
+            announced, collected = self.phase[2:]
+            return announced > ROOM or collected > ROOM or 0 < announced < collected
+        return False
+
+    def jump(self, number):
+        """Line number less expected number, folded by N; None for unknown."""
+        if self.last is None:
+            return None
+        lines = self.scope.systems[self.system][2]
+        expected = 1 if self.last == lines else self.last + 1
+        half = lines // 2
+        return (number - expected + half) % lines - half
+
+    def begin(self, line):
+        fault, number, settings = answer(self.scope, self.system, self.mode, line)
+        is_open = self.phase != IDLE
+        if fault:
+            self.phase, self.last = IDLE, None
+            return "refused", fault, is_open
+        jump = self.jump(number)
+        dropped = is_open and not (jump == 0 and settings == self.settings)
+        if dropped:
+            self.phase = IDLE
+        self.last, self.settings, self.place = number, settings, 0
+        return "begun", number, jump, dropped
+
+    def value(self, w):
+        return w & (0xFF if self.mode == 8 else 0x1FF)
+
+    def go_on(self, line, room):
+        length, payload, _ = self.scope.systems[self.system]
+        area = line[length - payload :]
+        end, size = self.end()
+        while self.place < end:
+            words = area[self.place : self.place + size]
+            self.place += size
+            event = self.word(words[0], room) if self.settings[2] == VARIABLE else self.fixed(words, room)
+            if event:
+                return event
+        self.place = None
+        return ("end",)
+
+    def fixed(self, words, room):
+        """A place of a fixed line."""
+        if not is_byte(words[0]):
+            return "drop", 2
+        if words[0] == 0x200:
+            return None
+        for i, w in enumerate(words[1:]):
+            room[i] = self.value(w)
+        return "block", words[0] & 0xFF, len(words) - 1
+
+    def drop(self, reason):
+        self.phase = TYPE if reason == 1 else IDLE
+        return "drop", reason
+
+    def word(self, w, room):
+        """A word of a variable line."""
+        if self.phase == IDLE:
+            self.phase = TYPE if w == 0x309 else IDLE
+            return None
+        if w == 0x309:
+            return self.drop(1)
+        return self.data(w, room) if self.phase[0] == "data" else self.head(w)
+
+    def head(self, w):
+        """Type or count awaited."""
+        if w == 0x30A:
+            return self.drop(4)
+        if not is_byte(w):
+            return self.drop(2 if self.phase == TYPE else 3)
+        if self.phase == TYPE:
+            self.phase = ("count", w & 0xFF)
+            return None
+        self.phase += (w & 0xFF,)
+        kind, *count = self.phase[1:]
+        if len(count) == 4:
+            n = int.from_bytes(bytes(count), "little")
+            if n > ROOM:
+                return self.drop(3)
+            self.phase = ("data", kind, n, 0)
+        return None
+
+    def data(self, w, room):
+        _, kind, announced, collected = self.phase
+        if w == 0x30A:
+            if announced not in (0, collected):
+                return self.drop(4)
+            self.phase = IDLE
+            return "block", kind, collected
+        if announced and collected == announced:
+            return self.drop(5)
+        if collected == ROOM:
+            return self.drop(6)
+        room[collected] = self.value(w)
+        self.phase = ("data", kind, announced, collected + 1)
+        return None
+
+
+def said(event):
+    """An event as the listing writes it."""
+    name, *values = event
+    if name == "begun":
+        values[1] = "unknown" if values[1] is None else values[1]
+    if name in ("begun", "refused"):
+        values[-1:] = ["dropped"] if values[-1] else []
+    return " ".join(map(str, [name, *values]))
