@@ -1,3 +1,4 @@
 pub mod BytesLaws
 pub mod TextLaws
 pub mod RowLaws
+pub mod NumberLaws

@@ -1,6 +1,6 @@
--- Words from bytes: two bytes a word, low byte first.
+-- Words from bytes and bytes from words: two bytes a word, low byte first.
 -- Assumes nothing.
-use Prim.Native.Nat.{ℕ, _+_, _*_}
+use Prim.Native.Nat.{ℕ, _+_, _*_, _/_, _%_}
 use mathlib.Core.List.{List, [], _∷_}
 
 -- a last byte without its fellow makes no word
@@ -8,3 +8,8 @@ abbrev pub wordsOf : List ℕ → List ℕ
 wordsOf [] = []
 wordsOf (a ∷ []) = []
 wordsOf (a ∷ b ∷ s) = (a + b * 256) ∷ wordsOf s
+
+-- the other way
+abbrev pub bytesOf : List ℕ → List ℕ
+bytesOf [] = []
+bytesOf (w ∷ s) = (w % 256) ∷ (w / 256) ∷ bytesOf s

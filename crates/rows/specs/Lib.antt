@@ -2,3 +2,4 @@ pub mod Text
 pub mod Rows
 pub mod Bytes
 pub mod Cuts
+pub mod Numbers

@@ -1,0 +1,118 @@
+-- `rows::bytes_of` meets its contract. Assumes nothing.
+use mathlib.Core.Path.{_≡_, refl, ap, ap₂, _∙_}
+use mathlib.Core.List.{List}
+use Prim.Native.Nat.{ℕ, _+_, _-_, _*_, _/_, _%_, _<_, _≤_, min}
+use native.Mathlib.Omega.{arith}
+use denote.Ref.{now}
+use lib.ListN.{length, set, getD, length-set}
+use lib.Seq.{paste, paste-zero}
+use Rattle.rows.specs.Bytes.{bytesOf}
+use Rattle.rows.proofs.BytesLaws.{next-two}
+use borrow.Author.Needs.{needs}
+use Rattle.rows.proofs.bytes_of.Statement.{statement}
+use Rattle.rows.proofs.bytes_of.Tie as tie
+
+abbrev Inv-loop : tie.InvT-loop
+Inv-loop words out₀ n i₀ out i = (i ≤ n) × (n ≡ min (length words) (length out₀ / 2)) × (length out ≡ length out₀) × (out ≡ paste out₀ 0 (bytesOf words) (2 * i))
+
+abbrev μ-loop : tie.MeasureT-loop
+μ-loop words out₀ n i₀ out i = n - i
+
+at-most-requires : tie.Need-at-most-requires Inv-loop μ-loop
+at-most-requires c κs = search needs
+
+loop-holds : tie.Need-loop-holds Inv-loop μ-loop
+loop-holds c = let a = c .before .before .before .args in (search needs, c .at-most .ensures, refl, paste-zero (now (a .out)) 0 (bytesOf (now (a .words))))
+
+mul-low : tie.Need-mul-low Inv-loop μ-loop
+mul-low c = search needs
+
+shared-slice-read-low : tie.Need-shared-slice-read-low Inv-loop μ-loop
+shared-slice-read-low c = search needs
+
+low-requires : tie.Need-low-requires Inv-loop μ-loop
+low-requires c κs = search needs
+
+mul-out : tie.Need-mul-out Inv-loop μ-loop
+mul-out c = search needs
+
+slice-write-out : tie.Need-slice-write-out Inv-loop μ-loop
+slice-write-out c = search needs
+
+mul-high : tie.Need-mul-high Inv-loop μ-loop
+mul-high c = search needs
+
+shared-slice-read-high : tie.Need-shared-slice-read-high Inv-loop μ-loop
+shared-slice-read-high c = search needs
+
+high-requires : tie.Need-high-requires Inv-loop μ-loop
+high-requires c κs = search needs
+
+mul-out-2 : tie.Need-mul-out-2 Inv-loop μ-loop
+mul-out-2 c = search needs
+
+add-out : tie.Need-add-out Inv-loop μ-loop
+add-out c = search needs
+
+slice-write-out-2 : tie.Need-slice-write-out-2 Inv-loop μ-loop
+slice-write-out-2 c =
+    let l = c .before .before .before .before .before .loop in
+    let room : 2 * l .i + 1 < length (l .out) = omega arith in
+    rw (length-set (l .out) (2 * l .i) (c .before .before .low .result)) room
+
+add-i : tie.Need-add-i Inv-loop μ-loop
+add-i c = search needs
+
+loop-less : tie.Need-loop-less Inv-loop μ-loop
+loop-less c = search needs
+
+loop-again : tie.Need-loop-again Inv-loop μ-loop
+loop-again c =
+    let l = c .before .before .before .before .before .loop in
+    let a = c .before .before .before .before .before .before .before .before .before .args in
+    let ws = now (a .words) in
+    let w = getD ws (l .i) 0 in
+    let inside : l .i < length ws = omega arith in
+    let room : 2 * l .i + 1 < length (now (a .out)) = omega arith in (
+      search needs,
+      l .inv .1,
+      search needs,
+      ap₂ (λ (x y : ℕ). set (set (l .out) (2 * l .i) x) (2 * l .i + 1) y) (c .before .before .low .ensures) (c .high .ensures)
+          ∙ ap (λ (t : List ℕ). set (set t (2 * l .i) (w % 256)) (2 * l .i + 1) (w / 256)) (l .inv .3)
+          ∙ next-two ws (now (a .out)) (l .i) inside room,
+    )
+
+same-length : tie.Need-same-length Inv-loop μ-loop
+same-length c = search needs
+
+returns : tie.Need-returns Inv-loop μ-loop
+returns c =
+    let l = c .before .loop in
+    let a = c .before .before .before .before .before .args in
+    let all : 2 * l .i ≡ 2 * min (length (now (a .words))) (length (now (a .out)) / 2) = omega arith in
+    l .inv .3 ∙ ap (paste (now (a .out)) 0 (bytesOf (now (a .words)))) all
+
+pub bytes-of-spec : {M : Type 1} → statement M
+bytes-of-spec =
+    tie.close
+    (tie.spec
+    Inv-loop
+    μ-loop
+    at-most-requires
+    loop-holds
+    mul-low
+    shared-slice-read-low
+    low-requires
+    mul-out
+    slice-write-out
+    mul-high
+    shared-slice-read-high
+    high-requires
+    mul-out-2
+    add-out
+    slice-write-out-2
+    add-i
+    loop-less
+    loop-again
+    same-length
+    returns)
