@@ -1,0 +1,52 @@
+// What the jobs write: a variable blocks of 10,000 values, flag 01h; b of 100 values; c fixed blocks 21h, flag 00h; d filler lines,
+// flag 01h.
+use line::settings::Settings;
+ghost use mathlib.Core.Path.{_≡_};
+ghost use Prim.Native.Nat.{_≤_};
+ghost use lib.ListN.{length};
+
+// How many values a block has; 0 where there are no blocks.
+pub(crate) fn count_of(job: u8) -> usize
+    ensures { λ r. ⌜ r ≤ 10000 ⌝ }
+{
+    match job {
+        b'a' => 10000,
+        b'b' => 100,
+        b'c' => 4,
+        _ => 0,
+    }
+}
+
+pub(crate) fn settings_of(job: u8) -> Settings {
+    let fixed = job == b'c';
+    Settings {
+        code: 1,
+        aai: 0,
+        destination: [1; 16],
+        source: [2; 16],
+        block: if fixed { 0x21 } else { 0xc1 },
+        flag: if fixed { 0 } else { 1 },
+        reserved: [0; 5],
+    }
+}
+
+fn value_at(i: usize, mode: u8) -> u16 {
+    let x = (i % 65536 * 7 + 3) % 65536;
+    if mode == 8 {
+        return (x % 256) as u16;
+    }
+    (x % 512) as u16
+}
+
+// The values that every block has from its first on.
+pub(crate) fn values_of(mode: u8) -> [u16; 10000]
+    ensures { λ r. ⌜ length r ≡ 10000 ⌝ }
+{
+    let mut s = [0u16; 10000];
+    let mut i = 0usize;
+    while i < 10000 {
+        s[i] = value_at(i, mode);
+        i += 1;
+    }
+    s
+}
