@@ -19,7 +19,7 @@ use Rattle.line.specs.Systems.{systemOf}
 use Rattle.line.specs.Fixed.{isVariable, placesOf, sizeOf}
 use Rattle.line.specs.Settings.{settingsFaults, settingsFault, sameSettings}
 use Rattle.line.specs.Check.{low, numberOf, settingsOf, numbered, headFaults, payloadFaults, faults, fits, lineFault, checkedFrom, checkedOf}
-use Rattle.course.specs.Course.{isAt, blocksEnd, misplaced}
+use Rattle.course.specs.Course.{isAt, misplaced}
 use Rattle.line.proofs.SettingsLaws.{same-block}
 use Rattle.course.proofs.CourseLaws.{start-placed, variable-placed, grid-next, grid-left, begun}
 use Rattle.reader.specs.declared.machine.Phase.{Phase}
@@ -124,9 +124,6 @@ module _ (st : Reader) (q : ℕ) (line room : List ℕ) (at : st .place ≡ At q
 
   abbrev block : ℕ
   block = st .settings .block
-
-  abbrev end : ℕ
-  end = blocksEnd (systemOf (st .system) .payload) (st .settings .block) (st .settings .flag)
 
   variable-goes : isVariable (st .settings .block) ≡ true → Goes st q (walkOf (st .mode) (st .phase) (wordsFrom st q line) room)
   variable-goes v =
