@@ -61,7 +61,7 @@ module _ (w : Writer) (line : List ℕ) (kind : ℕ) (vs : List ℕ) where
   k = room w (todo w kind vs)
 
   -- an answer of two numbers is not a refusal
-  laid-ok : length (laidNumbers (adding w line kind vs .answer)) ≡ 2 → addFault w (length line) kind vs ≡ 0
+  pub laid-ok : length (laidNumbers (adding w line kind vs .answer)) ≡ 2 → addFault w (length line) kind vs ≡ 0
   laid-ok e =
       ⊎-elim (λ z. z) (λ h. absurd (let a = ap (λ (x : Added). length (laidNumbers (x .answer))) (add-stays w line kind vs h) in let f : ⊥ = omega arith in f))
       (either (addFault w (length line) kind vs))
@@ -82,19 +82,19 @@ module _ (w : Writer) (line : List ℕ) (kind : ℕ) (vs : List ℕ) where
     answer-is : adding w line kind vs .answer ≡ pick (eqb k (length ws)) Finished Unfinished
     answer-is = ap (λ (x : Added). x .answer) (add-leaves w line kind vs ok)
 
-    all-laid : adding w line kind vs .answer ≡ Finished → pieceOf w line kind vs ≡ ws
+    pub all-laid : adding w line kind vs .answer ≡ Finished → pieceOf w line kind vs ≡ ws
     all-laid e =
         let all = eqb-true k (length ws) (done-or _ (sym answer-is ∙ e)) in
         piece-laid ∙ take-all k ws (omega arith)
 
     -- unfinished: in a variable line alone, with 1 to n+6 words laid
-    some-left : adding w line kind vs .answer ≡ Unfinished → eqb k (length ws) ≡ false
+    pub some-left : adding w line kind vs .answer ≡ Unfinished → eqb k (length ws) ≡ false
     some-left e = left-or _ (sym answer-is ∙ e)
 
-    rest-left : adding w line kind vs .answer ≡ Unfinished → adding w line kind vs .state .rest ≡ Part kind (length vs) (laidOf (w .rest) + k)
+    pub rest-left : adding w line kind vs .answer ≡ Unfinished → adding w line kind vs .state .rest ≡ Part kind (length vs) (laidOf (w .rest) + k)
     rest-left e = ap (λ (x : Added). x .state .rest) (add-leaves w line kind vs ok) ∙ pick-false _ _ (some-left e)
 
-    varies : adding w line kind vs .answer ≡ Unfinished → isVariable (w .settings .block) ≡ true
+    pub varies : adding w line kind vs .answer ≡ Unfinished → isVariable (w .settings .block) ≡ true
     varies e = go (isVariable (w .settings .block)) refl
       where
         go : (b : Bool) → isVariable (w .settings .block) ≡ b → isVariable (w .settings .block) ≡ true

@@ -12,6 +12,7 @@ use lib.ListN.{length, take, drop, replicate, length-append, length-replicate}
 use lib.Seq.{paste, length-take-le, take-at, drop-at}
 use Rattle.lists.specs.Lists.{each}
 use Rattle.lists.proofs.Lists.{each-append}
+use Rattle.words.specs.Modes.{isMode}
 use Rattle.line.specs.declared.settings.Settings.{Settings}
 use Rattle.course.specs.declared.Place.the-variants.{At}
 use Rattle.line.specs.Systems.{systemOf, isSystem}
@@ -23,6 +24,7 @@ use Rattle.course.specs.Course.{placeOf, blocksEnd}
 use Rattle.line.proofs.SystemLaws.{Sound}
 use Rattle.line.proofs.Lines.{Buildable, Accepted, accepted}
 use Rattle.writer.specs.declared.state.Writer.{Writer}
+use Rattle.writer.specs.declared.state.Answer.the-variants.{Done}
 use Rattle.writer.specs.State.{laidOf, endIn}
 use Rattle.writer.specs.Answers.{Left, Added}
 use Rattle.writer.specs.Block.{wordsIn}
@@ -204,6 +206,45 @@ module _ (system mode : ℕ) (f v : Bool) (n : ℕ) (t : Settings) (held : Held 
 sum-back : (a k : ℕ) → a ≤ k → a + (k - a) ≡ k
 sum-back a k h = omega arith
 
+-- ---- an open line closed
+module _ (system mode : ℕ) (f v : Bool) (n : ℕ) (t : Settings) (held : Held t) (known : isSystem system ≡ true) (moded : isMode mode ≡ true)
+    (row : Sound (systemOf system)) (clean : settingsFault system t ≡ 0) (one : 1 ≤ n) (last : n ≤ systemOf system .lines) (ps : List (List ℕ)) (w : Writer)
+    (line : List ℕ) (o : Open system mode f v n t (joined ps) w line) (done : closing w line .answer ≡ Done) where
+  -- it is the line of the definition
+  pub closed-line : closing w line .line ≡ lineWords (systemOf system) f v n t (areaFrom (systemOf system .payload) (t .flag) ps)
+  unfolding areaFrom
+  closed-line =
+      ap (λ (x : Left). x .line) (close-leaves w line (close-clear w line done))
+      ∙ ap₂ (λ (s : ℕ) (u : Settings). sealed (systemOf s) (u .flag) line) (o .of-system) (o .of-settings)
+      ∙ ap (sealed (systemOf system) (t .flag)) (o .is)
+      ∙ seals (systemOf system) f v n t held (row .room) (joined ps) (o .within) (area-most (systemOf system .payload) (t .flag))
+
+  buildable : Buildable system mode n t (areaFrom (systemOf system .payload) (t .flag) ps)
+  unfolding areaFrom
+  buildable =
+      let k = areaLength (systemOf system .payload) (t .flag) in
+      record {
+        known = known;
+        moded = moded;
+        one = one;
+        most = last;
+        held = held;
+        clean = clean;
+        fills =
+            length-append (joined ps) (replicate (k - length (joined ps)) 0x200)
+            ∙ ap (λ (x : ℕ). length (joined ps) + x) (length-replicate (k - length (joined ps)) 0x200)
+            ∙ sum-back (length (joined ps)) k (o .within);
+        legals =
+            each-append _ (joined ps) (replicate (k - length (joined ps)) 0x200) (o .words)
+            (each-filler _ (k - length (joined ps)) 0x200 (filler-legal mode (isVariable (t .block))));
+      }
+
+  -- and the line check of its system and mode finds no fault in it
+  pub closed-accepted : Accepted system mode n t (areaFrom (systemOf system .payload) (t .flag) ps) (closing w line .line)
+  closed-accepted =
+      subst (λ (l : List ℕ). Accepted system mode n t (areaFrom (systemOf system .payload) (t .flag) ps) l) (sym closed-line)
+      (accepted system mode f v n t (areaFrom (systemOf system .payload) (t .flag) ps) buildable)
+
 -- ---- a line opened, filled and closed
 -- what it is, and that the line check of its system and mode finds no fault in it and reads back its number, settings and area
 pub record Whole (w : Writer) (f v : Bool) (n : ℕ) (t : Settings) (ps : List (List ℕ)) (line : List ℕ) : Type 0 where
@@ -235,43 +276,14 @@ module _ (w : Writer) (f v : Bool) (n : ℕ) (t : Settings) (lent : List ℕ) (w
   filled-line =
       filling (w .system) (w .mode) f v n t held (start .known) (start .row) (start .clean) [] _ _ (c .last) (c .full) ps (c .calls) opened-line
 
-  closed-line : line ≡ lineWords (systemOf (w .system)) f v n t (areaFrom (systemOf (w .system) .payload) (t .flag) ps)
-  unfolding areaFrom
-  closed-line =
-      let o = filled-line in
-      let e = close-leaves (c .last) (c .full) (close-clear (c .last) (c .full) (c .close-done)) in
-      c .line-is
-      ∙ ap (λ (x : Left). x .line) e
-      ∙ ap₂ (λ (s : ℕ) (u : Settings). sealed (systemOf s) (u .flag) (c .full)) (o .of-system) (o .of-settings)
-      ∙ ap (sealed (systemOf (w .system)) (t .flag)) (o .is)
-      ∙ seals (systemOf (w .system)) f v n t held (start .row .room) (joined ps) (o .within) (area-most (systemOf (w .system) .payload) (t .flag))
-
-  buildable : Buildable (w .system) (w .mode) n t (areaFrom (systemOf (w .system) .payload) (t .flag) ps)
-  unfolding areaFrom
-  buildable =
-      let o = filled-line in
-      let k = areaLength (systemOf (w .system) .payload) (t .flag) in
-      record {
-        known = start .known;
-        moded = start .moded;
-        one = start .one;
-        most = start .last;
-        held = held;
-        clean = start .clean;
-        fills =
-            length-append (joined ps) (replicate (k - length (joined ps)) 0x200)
-            ∙ ap (λ (x : ℕ). length (joined ps) + x) (length-replicate (k - length (joined ps)) 0x200)
-            ∙ sum-back (length (joined ps)) k (o .within);
-        legals =
-            each-append _ (joined ps) (replicate (k - length (joined ps)) 0x200) (o .words)
-            (each-filler _ (k - length (joined ps)) 0x200 (filler-legal (w .mode) (isVariable (t .block))));
-      }
-
   pub written : Whole w f v n t ps line
-  written = record {
-    is = closed-line;
-    fits = filled-line .within;
-    accepts =
-        subst (λ (l : List ℕ). Accepted (w .system) (w .mode) n t (areaFrom (systemOf (w .system) .payload) (t .flag) ps) l) (sym closed-line)
-        (accepted (w .system) (w .mode) f v n t (areaFrom (systemOf (w .system) .payload) (t .flag) ps) buildable);
-  }
+  written =
+      let law = closed-line (w .system) (w .mode) f v n t held (start .known) (start .moded) (start .row) (start .clean) (start .one) (start .last) ps
+      (c .last) (c .full) filled-line (c .close-done) in
+      let check = closed-accepted (w .system) (w .mode) f v n t held (start .known) (start .moded) (start .row) (start .clean) (start .one) (start .last) ps
+      (c .last) (c .full) filled-line (c .close-done) in
+      record {
+        is = c .line-is ∙ law;
+        fits = filled-line .within;
+        accepts = subst (λ (l : List ℕ). Accepted (w .system) (w .mode) n t (areaFrom (systemOf (w .system) .payload) (t .flag) ps) l) (sym (c .line-is)) check;
+      }

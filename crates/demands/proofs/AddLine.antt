@@ -1,0 +1,223 @@
+-- An addition on an open line: what the reader hears of the line grows by the block that it finishes, if all of that block was kept.
+-- Assumes nothing.
+use Prim.Native.Nat.{ℕ, suc, _+_, _≤_}
+use mathlib.Core.Bool.{Bool, true, false}
+use mathlib.Core.List.{List, [], _∷_, _++_, map, append-nil}
+use mathlib.Core.Path.{_≡_, refl, sym, ap, ap₂, _∙_, subst}
+use mathlib.Core.Logic.{⊎-elim}
+use native.Mathlib.Omega.{arith}
+use lib.Dec.{eqb}
+use lib.ListN.{length, length-map}
+use Rattle.lists.specs.Tests.{pick}
+use Rattle.lists.proofs.Tests.{true-false, pick-true}
+use Rattle.line.specs.Fixed.{isVariable}
+use Rattle.course.specs.declared.Last.{Last}
+use Rattle.course.specs.declared.Place.the-variants.{Shut, At}
+use Rattle.course.specs.Course.{isAt}
+use Rattle.words.specs.Modes.{wordOf}
+use Rattle.writer.specs.declared.state.Rest.{Rest}
+use Rattle.writer.specs.declared.state.Rest.the-variants.{Whole, Part}
+use Rattle.writer.specs.declared.state.Laid.the-variants.{Finished, Unfinished}
+use Rattle.writer.specs.State.{most, isPart, laidOf}
+use Rattle.writer.specs.Answers.{Added, laidNumbers}
+use Rattle.writer.specs.Adding.{addFault, todo, room, adding}
+use Rattle.writer.specs.Block.{fixedWords}
+use Rattle.writer.specs.Course.{joined, pieceOf}
+use Rattle.writer.proofs.Keeps.{add-leaves, add-stays}
+use Rattle.writer.proofs.Refusals.{can-add}
+use Rattle.writer.proofs.Writing.{either}
+use Rattle.reader.specs.declared.state.Reader.{Reader}
+use Rattle.demands.specs.Sending.{Block, Complete, Desk, valuesNow, pieceNow, completeNow, addedBy}
+use Rattle.demands.specs.Hearing.{Heard, is-block}
+use Rattle.demands.specs.Damage.{allOn, survivors}
+use Rattle.demands.proofs.Run.{Now, now, idle, runTo, runOut, placeOut, placesTo}
+use Rattle.demands.proofs.RunLaws.{run-to-append, run-out-append, run-room}
+use Rattle.demands.proofs.BlockRun.{Shaped}
+use Rattle.demands.proofs.PlaceRun.{place-given, place-room, places-out-append, places-to-append}
+use Rattle.demands.proofs.LineRun.{startNow}
+use Rattle.demands.proofs.DeskOk.{DeskOk}
+use Rattle.demands.proofs.Outcomes.{Varies, Fills}
+use Rattle.demands.proofs.DeskCalls.{joined-append}
+use Rattle.demands.proofs.Ahead.{blocksHeard, Matches, ByWords, ByPlaces, Ahead}
+use Rattle.demands.proofs.StartLine.{matches-idle}
+use Rattle.demands.proofs.PieceRun.{all-one, all-lost, piece-ends, idle-again, piece-silent, matches-on}
+
+-- ---- lists
+over : (b : Bool) (z : Block) (l k : List Block) → pick b (z ∷ (l ++ k)) (l ++ k) ≡ pick b (z ∷ l) l ++ k
+unfolding pick
+over true z l k = refl
+over false z l k = refl
+
+pub survivors-append : (keeps : ℕ → Bool) (xs ys : List Complete) → survivors keeps (xs ++ ys) ≡ survivors keeps xs ++ survivors keeps ys
+survivors-append keeps [] ys = refl
+survivors-append keeps (x ∷ xs) ys =
+    ap (λ (l : List Block). pick (allOn keeps (x .pieces)) (x .block ∷ l) l) (survivors-append keeps xs ys)
+    ∙ over (allOn keeps (x .pieces)) (x .block) (survivors keeps xs) (survivors keeps ys)
+
+pub heard-append : (xs ys : List Block) → blocksHeard (xs ++ ys) ≡ blocksHeard xs ++ blocksHeard ys
+heard-append [] ys = refl
+heard-append (x ∷ xs) ys = ap (λ (l : List Heard). is-block x ∷ l) (heard-append xs ys)
+
+joined-one : (ps : List (List ℕ)) (p : List ℕ) → joined (ps ++ (p ∷ [])) ≡ joined ps ++ p
+joined-one ps p = joined-append ps (p ∷ []) ∙ ap (λ (l : List ℕ). joined ps ++ l) (append-nil p)
+
+one-more : (keeps : ℕ → Bool) (bs : List Complete) (b : Complete)
+    → blocksHeard (survivors keeps (bs ++ (b ∷ []))) ≡ blocksHeard (survivors keeps bs) ++ blocksHeard (pick (allOn keeps (b .pieces)) (b .block ∷ []) [])
+one-more keeps bs b = ap blocksHeard (survivors-append keeps bs (b ∷ [])) ∙ heard-append (survivors keeps bs) (survivors keeps (b ∷ []))
+
+-- ---- an addition that was not refused
+none-by : (b : Bool) (r : Rest) → pick b Finished Unfinished ≡ Finished → pick b Whole r ≡ Whole
+unfolding pick
+none-by true r h = refl
+none-by false r h = absurd (let z : _≡_ {A = ℕ} 0 1 = cc in let k : ⊥ = omega arith in k)
+
+module _ (d : Desk) (kind : ℕ) (vs : List ℕ) where
+  abbrev x : Added
+  x = adding (d .writer) (d .now .words) kind vs
+
+  -- an answer of two numbers is no refusal
+  pub was-laid : length (laidNumbers (adding (d .writer) (d .now .words) kind vs .answer)) ≡ 2 → addFault (d .writer) (length (d .now .words)) kind vs ≡ 0
+  was-laid e =
+      ⊎-elim (λ z. z)
+      (λ h. absurd (let a = ap (λ (y : Added). length (laidNumbers (y .answer))) (add-stays (d .writer) (d .now .words) kind vs h) in let f : ⊥ = omega arith in f))
+      (either (addFault (d .writer) (length (d .now .words)) kind vs))
+
+  module _ (ok : addFault (d .writer) (length (d .now .words)) kind vs ≡ 0) where
+    still-open : adding (d .writer) (d .now .words) kind vs .state .place ≡ Shut → ⊥
+    still-open e = true-false (ap isAt (sym (ap (λ (y : Added). y .state .place) (add-leaves (d .writer) (d .now .words) kind vs ok)) ∙ e))
+
+    -- finished: nothing is owing
+    all-done : adding (d .writer) (d .now .words) kind vs .answer ≡ Finished → adding (d .writer) (d .now .words) kind vs .state .rest ≡ Whole
+    all-done e =
+        let l = add-leaves (d .writer) (d .now .words) kind vs ok in
+        ap (λ (y : Added). y .state .rest) l
+        ∙ none-by (eqb (room (d .writer) (todo (d .writer) kind vs)) (length (todo (d .writer) kind vs))) _ (sym (ap (λ (y : Added). y .answer) l) ∙ e)
+
+module _ (system mode : ℕ) (keeps : ℕ → Bool) (before : Last) (gone : Bool) (d : Desk) (st : Reader) (room : List ℕ) (kind : ℕ) (vs : List ℕ)
+    (dk : DeskOk system mode d) (ok : addFault (d .writer) (length (d .now .words)) kind vs ≡ 0) (at : isAt (d .writer .place) ≡ true)
+    (a : Ahead system mode keeps before gone d st room) where
+  abbrev piece : List ℕ
+  piece = pieceOf (d .writer) (d .now .words) kind vs
+
+  -- where something was lost of it, something was laid of it
+  was-begun : allOn keeps (d .pieces) ≡ false → 1 ≤ laidOf (d .writer .rest)
+  was-begun e = by (d .writer .rest) refl
+    where
+      by : (r : Rest) → d .writer .rest ≡ r → 1 ≤ laidOf (d .writer .rest)
+      by Whole h = absurd (true-false (sym (ap (allOn keeps) (dk .none-owing h)) ∙ e))
+      by (Part k n j) h = subst (λ (i : ℕ). 1 ≤ i) (sym (ap laidOf h)) (dk .owing k n j h .some)
+
+  module _ (q : Now) (y : Varies mode d kind vs) (w : ByWords mode keeps d q) where
+    shaped : Shaped mode kind (valuesNow d vs)
+    shaped = record { small = y .small; at-most = y .at-most; values-fit = y .values-fit }
+
+    mid : Now
+    mid = runTo mode q (joined (d .now .pieces))
+
+    run-out : runOut mode q (joined (d .now .pieces ++ (piece ∷ []))) ≡ blocksHeard (survivors keeps (d .now .blocks)) ++ runOut mode mid piece
+    unfolding mid
+    run-out =
+        ap (runOut mode q) (joined-one (d .now .pieces) piece)
+        ∙ run-out-append mode q (joined (d .now .pieces)) piece
+        ∙ ap (λ (l : List Heard). l ++ runOut mode (runTo mode q (joined (d .now .pieces))) piece) (w .heard)
+
+    run-to : runTo mode q (joined (d .now .pieces ++ (piece ∷ []))) ≡ runTo mode mid piece
+    unfolding mid
+    run-to = ap (runTo mode q) (joined-one (d .now .pieces) piece) ∙ run-to-append mode q (joined (d .now .pieces)) piece
+
+    words-end : keeps (d .closed) ≡ true → adding (d .writer) (d .now .words) kind vs .answer ≡ Finished
+        → ByWords mode keeps (addedBy Finished (adding (d .writer) (d .now .words) kind vs) d kind vs) q
+    unfolding mid
+    words-end k e =
+        let out = piece-ends mode kind (valuesNow d vs) shaped keeps (d .pieces) mid (w .matches) (laidOf (d .writer .rest)) (y .k) (y .before) piece (y .piece) was-begun (y .some) (y .ends e) in
+        let is-idle = idle-again mode kind (valuesNow d vs) shaped keeps (d .pieces) mid (w .matches) (laidOf (d .writer .rest)) (y .k) (y .before) piece (y .piece) was-begun (y .some) (y .ends e) in
+        record {
+          heard = run-out
+              ∙ ap (λ (l : List Heard). blocksHeard (survivors keeps (d .now .blocks)) ++ l)
+              (out ∙ ap (λ (b : Bool). blocksHeard (pick b (completeNow d kind vs .block ∷ []) [])) (sym (all-one keeps (d .pieces) (pieceNow d kind vs) k)))
+              ∙ sym (one-more keeps (d .now .blocks) (completeNow d kind vs));
+          matches = subst (Matches mode keeps []) (sym run-to)
+              (matches-idle mode keeps [] (runTo mode mid piece) refl is-idle (run-room mode mid piece ∙ w .matches .long));
+        }
+
+    words-on : keeps (d .closed) ≡ true → adding (d .writer) (d .now .words) kind vs .answer ≡ Unfinished
+        → ByWords mode keeps (addedBy Unfinished (adding (d .writer) (d .now .words) kind vs) d kind vs) q
+    unfolding mid
+    words-on k e =
+        let out = piece-silent mode kind (valuesNow d vs) shaped keeps (d .pieces) mid (w .matches) (laidOf (d .writer .rest)) (y .k) (y .before) piece (y .piece) was-begun (y .goes-on e) in
+        let m = matches-on mode kind (valuesNow d vs) shaped keeps (d .pieces) mid (w .matches) (laidOf (d .writer .rest)) (y .k) (y .before) piece (y .piece) was-begun (y .goes-on e) (pieceNow d kind vs) k refl in
+        record {
+          heard = run-out ∙ ap (λ (l : List Heard). blocksHeard (survivors keeps (d .now .blocks)) ++ l) out ∙ append-nil _;
+          matches = subst (Matches mode keeps (d .pieces ++ (pieceNow d kind vs ∷ []))) (sym run-to) m;
+        }
+
+  module _ (q : Now) (y : Fills mode d kind vs) (w : ByPlaces mode keeps d q) where
+    behind : List ℕ
+    behind = placesTo mode (q .room) (d .now .pieces)
+
+    piece-long : length piece ≤ suc (length behind)
+    unfolding behind fixedWords
+    piece-long =
+        let l : length piece ≡ suc (length vs) = ap length (y .piece) ∙ ap suc (length-map vs (wordOf mode)) in
+        omega (arith, can-add (d .writer) (d .now .words) kind vs ok .number, w .long)
+
+    place-heard : keeps (d .closed) ≡ true → placeOut mode piece behind ≡ blocksHeard (pick (allOn keeps (completeNow d kind vs .pieces)) (completeNow d kind vs .block ∷ []) [])
+    place-heard k =
+        ap (λ (l : List ℕ). placeOut mode l behind) (y .piece)
+        ∙ place-given mode kind vs behind (y .small) (y .some) (y .values-fit)
+        ∙ ap (λ (l : List ℕ). blocksHeard (record { kind = kind; values = l } ∷ [])) (sym (y .values-are))
+        ∙ sym (ap blocksHeard (pick-true (completeNow d kind vs .block ∷ []) [] (all-one keeps (d .pieces) (pieceNow d kind vs) k ∙ ap (allOn keeps) (y .none-before))))
+
+    places-end : keeps (d .closed) ≡ true → ByPlaces mode keeps (addedBy Finished (adding (d .writer) (d .now .words) kind vs) d kind vs) q
+    unfolding behind
+    places-end k = record {
+      heard = places-out-append mode (q .room) (d .now .pieces) (piece ∷ [])
+          ∙ ap₂ (λ (l m : List Heard). l ++ m) (w .heard) (append-nil (placeOut mode piece behind) ∙ place-heard k)
+          ∙ sym (one-more keeps (d .now .blocks) (completeNow d kind vs));
+      phase = w .phase;
+      long = ap length (places-to-append mode (q .room) (d .now .pieces) (piece ∷ [])) ∙ place-room mode piece behind piece-long ∙ w .long;
+    }
+
+  -- ---- the whole
+  abbrev Variable : Bool → Type 0
+  Variable b = isVariable (d .now .settings .block) ≡ b
+
+  -- what the line's kind says of the addition
+  pub record Says : Type 0 where
+    pub varies : isVariable (d .now .settings .block) ≡ true → Varies mode d kind vs
+    pub fills : isVariable (d .now .settings .block) ≡ false → Fills mode d kind vs
+
+  pub finished-ahead : Says → adding (d .writer) (d .now .words) kind vs .answer ≡ Finished
+      → Ahead system mode keeps before gone (addedBy Finished (adding (d .writer) (d .now .words) kind vs) d kind vs) st room
+  finished-ahead s e = record {
+    listens = a .listens;
+    between = λ z. absurd (still-open d kind vs ok z);
+    inside = λ z k h.
+        let q = startNow st (d .now .number) (d .now .settings) room in
+        let i = a .inside at k h in
+        record {
+          by-words = λ v. words-end q (s .varies v) (i .by-words v) k e;
+          by-places = λ v. places-end q (s .fills v) (i .by-places v) k;
+        };
+    quiet = λ z g. a .quiet at g;
+    missing = λ k p z l part. absurd (true-false (sym part ∙ ap isPart (all-done d kind vs ok e)));
+  }
+
+  pub unfinished-ahead : Says → adding (d .writer) (d .now .words) kind vs .answer ≡ Unfinished
+      → Ahead system mode keeps before gone (addedBy Unfinished (adding (d .writer) (d .now .words) kind vs) d kind vs) st room
+  unfinished-ahead s e = record {
+    listens = a .listens;
+    between = λ z. absurd (still-open d kind vs ok z);
+    inside = λ z k h.
+        let q = startNow st (d .now .number) (d .now .settings) room in
+        let i = a .inside at k h in
+        record {
+          by-words = λ v. words-on q (s .varies v) (i .by-words v) k e;
+          by-places = λ v. absurd (two-answers (sym (s .fills v .finished) ∙ e));
+        };
+    quiet = λ z g. a .quiet at g;
+    missing = λ k p z l part. all-lost keeps (d .pieces) (pieceNow d kind vs) k;
+  }
+    where
+      two-answers : Finished ≡ Unfinished → ⊥
+      two-answers h = let z : _≡_ {A = ℕ} 0 1 = cc in omega arith

@@ -1,0 +1,235 @@
+-- What an accepted addition says of the desk: in a variable line some words more of a block, in a fixed line a whole place.
+-- Assumes nothing.
+use mathlib.Core.Path.{_≡_, refl, sym, ap, ap₂, _∙_}
+use mathlib.Core.Bool.{Bool, true, false, _&&_, _||_, not}
+use mathlib.Core.List.{List, [], _∷_, _++_, append-nil}
+use Prim.Native.Nat.{ℕ, _+_, _-_, _≤_, min}
+use native.Mathlib.Omega.{arith}
+use lib.Dec.{ltb, eqb}
+use lib.ListN.{length, take, drop, length-take, length-drop}
+use lib.Seq.{take-all, take-add}
+use borrow.Author.Tests.{eqb-true, eqb-false, not-false}
+use Rattle.lists.proofs.Tests.{or-false, both-true}
+use Rattle.lists.proofs.Lists.{each-append}
+use Rattle.words.specs.Modes.{values}
+use Rattle.line.specs.declared.settings.Settings.{Settings}
+use Rattle.line.specs.Fixed.{isVariable, sizeOf}
+use Rattle.course.specs.declared.Place.{Place}
+use Rattle.course.specs.declared.Place.the-variants.{At}
+use Rattle.course.specs.Course.{isAt, placeOf}
+use Rattle.writer.specs.declared.state.Rest.{Rest}
+use Rattle.writer.specs.declared.state.Rest.the-variants.{Whole, Part}
+use Rattle.writer.specs.declared.state.Laid.{Laid}
+use Rattle.writer.specs.declared.state.Laid.the-variants.{Finished, Unfinished}
+use Rattle.writer.specs.State.{most, laidOf}
+use Rattle.writer.specs.Answers.{laidNumbers, Added}
+use Rattle.writer.specs.Block.{blockWords, fixedWords, wordsIn}
+use Rattle.writer.specs.Adding.{valued, illShaped, isOther, addFault, todo, room, adding}
+use Rattle.writer.specs.Course.{pieceOf, asLaid}
+use Rattle.writer.proofs.Keeps.{add-leaves}
+use Rattle.writer.proofs.BlockLaws.{words-long}
+use Rattle.writer.proofs.Legal.{each-take, each-drop}
+use Rattle.writer.proofs.Refusals.{CanAdd, can-add, count, count-variable}
+use Rattle.writer.proofs.Stays.{words-variable, words-fixed, part-laid, fixed-whole}
+use Rattle.writer.proofs.Pieces.{laid-ok, piece-laid, all-laid, some-left, fixed-once, as-long, as-before, as-behind}
+use Rattle.demands.specs.Sending.{Desk, valuesNow, pieceNow, joinedPieces}
+use Rattle.demands.proofs.DeskOk.{OpenNow, DeskOk}
+use Rattle.demands.proofs.Outcomes.{Varies, Fills}
+use Rattle.demands.proofs.DeskCalls.{joined-pieces-append}
+
+-- accepted additions are on an open line
+pub add-places : (d : Desk) (kind : ℕ) (vs : List ℕ) → addFault (d .writer) (length (d .now .words)) kind vs ≡ 0 → isAt (d .writer .place) ≡ true
+add-places d kind vs clear = can-add (d .writer) (d .now .words) kind vs clear .begun
+
+-- ---- the values as laid, j words before and the others now, against those lent now
+pub record Lent (mode kind j : ℕ) (laid values vs : List ℕ) : Type 0 where
+  pub long : length (asLaid j values vs) ≡ length vs
+  pub fits : valued mode (asLaid j values vs) ≡ true
+  pub before : laid ≡ take j (blockWords mode kind (asLaid j values vs))
+  pub behind : drop j (blockWords mode kind (asLaid j values vs)) ≡ drop j (blockWords mode kind vs)
+
+lent-fits : (mode i : ℕ) (us vs : List ℕ) → valued mode us ≡ true → valued mode vs ≡ true → valued mode (take i us ++ drop i vs) ≡ true
+unfolding valued
+lent-fits mode i us vs eu ev =
+    let f : ℕ → Bool = λ (x : ℕ). ltb x (values mode) in
+    each-append f (take i us) (drop i vs) (each-take f i us eu) (each-drop f i vs ev)
+
+lent-by : (system mode : ℕ) (d : Desk) (kind : ℕ) (vs : List ℕ) (r : Rest) → DeskOk system mode d → valued mode vs ≡ true → d .writer .rest ≡ r
+    → isOther r kind (length vs) ≡ false → Lent mode kind (laidOf r) (joinedPieces (d .pieces)) (d .values) vs
+lent-by system mode d kind vs Whole ok fit e same = record { long = refl; fits = fit; before = ap joinedPieces (ok .none-owing e); behind = refl }
+lent-by system mode d kind vs (Part k n j) ok fit e same =
+    let o = ok .owing k n j e in
+    let b = both-true (eqb k kind) (eqb n (length vs)) (not-false _ same) in
+    let is : n ≡ length vs = eqb-true n (length vs) (b .1) in
+    let ev : length (d .values) ≡ length vs = o .long ∙ is in
+    let short : j ≤ length vs + 6 = omega (arith, o .short, is) in
+    record {
+      long = as-long mode kind j (length vs) (d .values) vs short ev refl;
+      fits = lent-fits mode (j - 6) (d .values) vs (o .values-fit) fit;
+      before =
+          o .words ∙ ap (λ (m : ℕ). take j (blockWords mode m (d .values))) (eqb-true k kind (b .0))
+          ∙ sym (as-before mode kind j (length vs) (d .values) vs short ev refl);
+      behind = as-behind mode kind j (length vs) (d .values) vs short ev refl;
+    }
+
+-- ---- 18 in a fixed line
+shape-fixed : (p : Place) (block kind n : ℕ) → isAt p ≡ true → isVariable block ≡ false → illShaped p block kind n ≡ false
+    → (n + 1 ≡ sizeOf block) × (1 ≤ kind)
+unfolding illShaped
+shape-fixed p block kind n o v e =
+    let a = or-false (ltb 255 kind) _ (or-false (ltb most n) _ e .1) .1 in
+    let b : (not (eqb (n + 1) (sizeOf block)) || eqb kind 0) ≡ false =
+    sym (ap₂ (λ (x y : Bool). (x && not y) && (not (eqb (n + 1) (sizeOf block)) || eqb kind 0)) o v) ∙ a in
+    let c = or-false (not (eqb (n + 1) (sizeOf block))) (eqb kind 0) b in
+    (eqb-true _ _ (not-false _ (c .0)), omega (arith, eqb-false kind 0 (c .1)))
+
+module _ (system mode : ℕ) (d : Desk) (kind : ℕ) (vs : List ℕ) (ok : DeskOk system mode d)
+    (clear : addFault (d .writer) (length (d .now .words)) kind vs ≡ 0) where
+  -- how many words are laid now
+  abbrev k : ℕ
+  k = room (d .writer) (todo (d .writer) kind vs)
+
+  pub finds : CanAdd (d .writer) (d .now .words) kind vs
+  finds = can-add (d .writer) (d .now .words) kind vs clear
+
+  pub now-open : OpenNow system mode d
+  now-open = ok .opened (finds .begun)
+
+  pub now-block : d .writer .settings .block ≡ d .now .settings .block
+  now-block = ap (λ (u : Settings). u .block) (now-open .is-open .of-settings)
+
+  now-fits : valued mode vs ≡ true
+  now-fits = ap (λ (m : ℕ). valued m vs) (sym (ok .of-mode)) ∙ finds .values
+
+  pub lent-now : Lent mode kind (laidOf (d .writer .rest)) (joinedPieces (d .pieces)) (d .values) vs
+  lent-now = lent-by system mode d kind vs (d .writer .rest) ok now-fits refl (finds .same)
+
+  todo-long : length (todo (d .writer) kind vs) ≡ count (d .writer .settings .block) (length vs) - laidOf (d .writer .rest)
+  todo-long =
+      length-drop (laidOf (d .writer .rest)) (wordsIn (d .writer .settings .block) (d .writer .mode) kind vs)
+      ∙ ap (λ (x : ℕ). x - laidOf (d .writer .rest)) (words-long (d .writer .settings .block) (d .writer .mode) kind vs)
+
+  some-laid : 1 ≤ room (d .writer) (todo (d .writer) kind vs)
+  some-laid = omega (arith, todo-long, finds .room, finds .left)
+
+  -- finished: all that was left
+  pub all-now : adding (d .writer) (d .now .words) kind vs .answer ≡ Finished → room (d .writer) (todo (d .writer) kind vs) ≡ length (todo (d .writer) kind vs)
+  all-now e =
+      let ws = todo (d .writer) kind vs in
+      let same = ap length (sym (piece-laid (d .writer) (d .now .words) kind vs clear) ∙ all-laid (d .writer) (d .now .words) kind vs clear e) in
+      omega (arith, same, length-take (room (d .writer) ws) ws)
+
+  place-now : (p : ℕ) → adding (d .writer) (d .now .words) kind vs .state .place ≡ At p → 1 ≤ p
+  place-now p e =
+      let moves = ap (λ (x : Added). placeOf (x .state .place)) (add-leaves (d .writer) (d .now .words) kind vs clear) in
+      omega (arith, some-laid, moves, ap placeOf e)
+
+  -- ---- a variable line
+  module _ (v : isVariable (d .writer .settings .block) ≡ true) where
+    variable-words : (us : List ℕ) → wordsIn (d .writer .settings .block) (d .writer .mode) kind us ≡ blockWords mode kind us
+    variable-words us = words-variable (d .writer .settings .block) (d .writer .mode) kind us v ∙ ap (λ (m : ℕ). blockWords m kind us) (ok .of-mode)
+
+    pub piece-now : pieceOf (d .writer) (d .now .words) kind vs ≡ take k (drop (laidOf (d .writer .rest)) (blockWords mode kind (valuesNow d vs)))
+    piece-now =
+        piece-laid (d .writer) (d .now .words) kind vs clear ∙ ap (take k) (ap (drop (laidOf (d .writer .rest))) (variable-words vs) ∙ sym (lent-now .behind))
+
+    -- all that is laid of the block
+    pub words-now : joinedPieces (d .pieces ++ (pieceNow d kind vs ∷ [])) ≡ take (laidOf (d .writer .rest) + k) (blockWords mode kind (valuesNow d vs))
+    words-now =
+        joined-pieces-append (d .pieces) (pieceNow d kind vs ∷ [])
+        ∙ ap₂ _++_ (lent-now .before) (append-nil (pieceOf (d .writer) (d .now .words) kind vs) ∙ piece-now)
+        ∙ sym (take-add (laidOf (d .writer .rest)) k (blockWords mode kind (valuesNow d vs)))
+
+    ends-now : adding (d .writer) (d .now .words) kind vs .answer ≡ Finished → laidOf (d .writer .rest) + k ≡ length (valuesNow d vs) + 7
+    ends-now e = omega (arith, all-now e, todo-long, finds .left, count-variable (d .writer .settings .block) (length vs) v, lent-now .long)
+
+    pub goes-now : adding (d .writer) (d .now .words) kind vs .answer ≡ Unfinished
+        → (1 ≤ laidOf (d .writer .rest) + k) × (laidOf (d .writer .rest) + k ≤ length vs + 6)
+    goes-now e = part-laid (d .writer) (d .now .words) kind vs clear v (eqb-false _ _ (some-left (d .writer) (d .now .words) kind vs clear e))
+
+    now-varies : Varies mode d kind vs
+    now-varies = record {
+      small = omega (arith, finds .byte);
+      at-most = omega (arith, lent-now .long, finds .number);
+      values-fit = lent-now .fits;
+      k = k;
+      some = some-laid;
+      before = lent-now .before;
+      piece = piece-now;
+      ends = ends-now;
+      goes-on = λ e. omega (arith, goes-now e .1, lent-now .long);
+      moved = place-now;
+    }
+
+    block-long : (us : List ℕ) → length (blockWords mode kind us) ≡ length us + 7
+    block-long us =
+        ap length (sym (variable-words us)) ∙ words-long (d .writer .settings .block) (d .writer .mode) kind us
+        ∙ count-variable (d .writer .settings .block) (length us) v
+
+    whole-variable : adding (d .writer) (d .now .words) kind vs .answer ≡ Finished
+        → joinedPieces (d .pieces ++ (pieceNow d kind vs ∷ [])) ≡ wordsIn (d .now .settings .block) mode kind (valuesNow d vs)
+    whole-variable e =
+        let us = valuesNow d vs in
+        words-now ∙ take-all (laidOf (d .writer .rest) + k) (blockWords mode kind us) (omega (arith, ends-now e, block-long us))
+        ∙ sym (words-variable (d .now .settings .block) mode kind us (ap isVariable (sym now-block) ∙ v))
+
+  -- ---- a fixed line
+  module _ (v : isVariable (d .writer .settings .block) ≡ false) where
+    none-laid : d .writer .rest ≡ Whole
+    none-laid = fixed-whole (d .writer) (d .now .words) kind vs clear v
+
+    now-fills : Fills mode d kind vs
+    now-fills =
+        let shape = shape-fixed (d .writer .place) (d .writer .settings .block) kind (length vs) (finds .begun) v (finds .shape) in
+        let once = fixed-once (d .writer) (d .now .words) kind vs clear v in
+        record {
+          finished = once .0;
+          small = omega (arith, finds .byte);
+          some = shape .1;
+          values-fit = now-fits;
+          values-are = ap (λ (r : Rest). asLaid (laidOf r) (d .values) vs) none-laid;
+          long = shape .0 ∙ ap sizeOf now-block;
+          none-before = ok .none-owing none-laid;
+          piece = once .1 ∙ ap (λ (m : ℕ). fixedWords m kind vs) (ok .of-mode);
+        }
+
+    whole-fixed : joinedPieces (d .pieces ++ (pieceNow d kind vs ∷ [])) ≡ wordsIn (d .now .settings .block) mode kind (valuesNow d vs)
+    whole-fixed =
+        joined-pieces-append (d .pieces) (pieceNow d kind vs ∷ [])
+        ∙ ap₂ _++_ (ap joinedPieces (now-fills .none-before)) (append-nil (pieceOf (d .writer) (d .now .words) kind vs) ∙ now-fills .piece)
+        ∙ ap (fixedWords mode kind) (sym (now-fills .values-are))
+        ∙ sym (words-fixed (d .now .settings .block) mode kind (valuesNow d vs) (ap isVariable (sym now-block) ∙ v))
+
+-- ---- an accepted addition
+pub varies-say : (system mode : ℕ) (d : Desk) (kind : ℕ) (vs : List ℕ) → DeskOk system mode d → isAt (d .writer .place) ≡ true
+    → isVariable (d .now .settings .block) ≡ true → addFault (d .writer) (length (d .now .words)) kind vs ≡ 0 → Varies mode d kind vs
+varies-say system mode d kind vs ok at v clear = now-varies system mode d kind vs ok clear (ap isVariable (now-block system mode d kind vs ok clear) ∙ v)
+
+pub fills-say : (system mode : ℕ) (d : Desk) (kind : ℕ) (vs : List ℕ) → DeskOk system mode d → isAt (d .writer .place) ≡ true
+    → isVariable (d .now .settings .block) ≡ false → addFault (d .writer) (length (d .now .words)) kind vs ≡ 0 → Fills mode d kind vs
+fills-say system mode d kind vs ok at v clear = now-fills system mode d kind vs ok clear (ap isVariable (now-block system mode d kind vs ok clear) ∙ v)
+
+-- a finished block: its pieces, joined, are its words
+pub block-whole : (system mode : ℕ) (d : Desk) (kind : ℕ) (vs : List ℕ) → DeskOk system mode d → isAt (d .writer .place) ≡ true
+    → adding (d .writer) (d .now .words) kind vs .answer ≡ Finished
+    → joinedPieces (d .pieces ++ (pieceNow d kind vs ∷ [])) ≡ wordsIn (d .now .settings .block) mode kind (valuesNow d vs)
+block-whole system mode d kind vs ok at e = go (isVariable (d .writer .settings .block)) refl
+  where
+    clear : addFault (d .writer) (length (d .now .words)) kind vs ≡ 0
+    clear = laid-ok (d .writer) (d .now .words) kind vs (ap (λ (a : Laid). length (laidNumbers a)) e)
+
+    go : (b : Bool) → isVariable (d .writer .settings .block) ≡ b
+        → joinedPieces (d .pieces ++ (pieceNow d kind vs ∷ [])) ≡ wordsIn (d .now .settings .block) mode kind (valuesNow d vs)
+    go true v = whole-variable system mode d kind vs ok clear v e
+    go false v = whole-fixed system mode d kind vs ok clear v
+
+-- an accepted addition lays one word or more: there is room for one, and one is left to lay
+pub piece-some : (d : Desk) (kind : ℕ) (vs : List ℕ) → addFault (d .writer) (length (d .now .words)) kind vs ≡ 0 → 1 ≤ length (pieceOf (d .writer) (d .now .words) kind vs)
+piece-some d kind vs clear =
+    let w = d .writer in
+    let a = can-add w (d .now .words) kind vs clear in
+    let ws = todo w kind vs in
+    let left = length-drop (laidOf (w .rest)) (wordsIn (w .settings .block) (w .mode) kind vs) in
+    let all = words-long (w .settings .block) (w .mode) kind vs in
+    let long : length (pieceOf (d .writer) (d .now .words) kind vs) ≡ min (room w ws) (length ws) = ap length (piece-laid w (d .now .words) kind vs clear) ∙ length-take (room w ws) ws in
+    omega (arith, a .room, a .left)

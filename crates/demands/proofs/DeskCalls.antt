@@ -1,0 +1,136 @@
+-- What a call leaves of the desk, by its answer: a refused call leaves all of it.
+-- Assumes nothing.
+use mathlib.Core.Path.{_≡_, refl, sym, ap, ap₂, _∙_, subst}
+use mathlib.Core.Bool.{Bool, true, false}
+use mathlib.Core.List.{List, [], _∷_, _++_, append-assoc}
+use Prim.Native.Nat.{ℕ}
+use native.Mathlib.Omega.{arith}
+use lib.ListN.{length}
+use Rattle.lists.specs.Tests.{pick}
+use Rattle.line.specs.declared.settings.Settings.{Settings}
+use Rattle.line.specs.Settings.{Held}
+use Rattle.line.specs.Fixed.{isVariable}
+use Rattle.writer.specs.declared.state.Writer.{Writer}
+use Rattle.writer.specs.declared.state.Answer.{Answer}
+use Rattle.writer.specs.declared.state.Answer.the-variants.{Refused, Done}
+use Rattle.writer.specs.declared.state.Laid.{Laid}
+use Rattle.writer.specs.declared.state.Laid.the-variants.{Not, Finished, Unfinished}
+use Rattle.writer.specs.Answers.{laidNumbers, Added}
+use Rattle.writer.specs.Opening.{opening}
+use Rattle.writer.specs.Adding.{addFault, adding}
+use Rattle.writer.specs.Closing.{closing}
+use Rattle.writer.specs.Course.{joined}
+use Rattle.writer.proofs.Keeps.{open-keeps, close-keeps, add-stays, add-leaves}
+use Rattle.demands.specs.Sending.{opens, adds, closes, Piece, Sent, Desk, openedBy, with, addedBy, closedBy, after, joinedPieces}
+use Rattle.demands.proofs.DeskOk.{Owing, DeskOk}
+
+-- ---- joined
+pub joined-pieces-append : (ps qs : List Piece) → joinedPieces (ps ++ qs) ≡ joinedPieces ps ++ joinedPieces qs
+joined-pieces-append [] qs = refl
+joined-pieces-append (p ∷ ps) qs =
+    ap (λ (l : List ℕ). p .words ++ l) (joined-pieces-append ps qs) ∙ sym (append-assoc (p .words) (joinedPieces ps) (joinedPieces qs))
+
+pub joined-append : (ps qs : List (List ℕ)) → joined (ps ++ qs) ≡ joined ps ++ joined qs
+joined-append [] qs = refl
+joined-append (p ∷ ps) qs = ap (λ (l : List ℕ). p ++ l) (joined-append ps qs) ∙ sym (append-assoc p (joined ps) (joined qs))
+
+-- ---- opening
+module _ (d : Desk) (f v : Bool) (n : ℕ) (t : Settings) (held : Held t) (lent : List ℕ) where
+  pub after-opened : opening (d .writer) f v n t lent .answer ≡ Done → after d (opens f v n t held lent) ≡ openedBy Done (opening (d .writer) f v n t lent) d f v n t
+  unfolding after
+  after-opened e = ap (λ (a : Answer). openedBy a (opening (d .writer) f v n t lent) d f v n t) e
+
+  pub open-refused-same : (k : ℕ) → opening (d .writer) f v n t lent .answer ≡ Refused k → after d (opens f v n t held lent) ≡ d
+  unfolding after
+  open-refused-same k e =
+      ap (λ (a : Answer). openedBy a (opening (d .writer) f v n t lent) d f v n t) e
+      ∙ ap {B = Desk} (λ (w : Writer). record { writer = w; now = d .now; closed = d .closed; values = d .values; pieces = d .pieces })
+      (open-keeps (d .writer) f v n t lent k e .0)
+
+-- ---- adding
+-- the desk with another state, and other words of the line opened last
+abbrev moves : Desk → Writer → List ℕ → Desk
+moves d w ws = record { writer = w; now = with (d .now) (d .now .pieces) (d .now .blocks) ws; closed = d .closed; values = d .values; pieces = d .pieces }
+
+laid-not : (k : ℕ) (b : Bool) → pick b Finished Unfinished ≡ Not k → ⊥
+unfolding pick
+laid-not k true h = omega (arith, ap (λ (a : Laid). length (laidNumbers a)) h)
+laid-not k false h = omega (arith, ap (λ (a : Laid). length (laidNumbers a)) h)
+
+module _ (d : Desk) (kind : ℕ) (vs : List ℕ) where
+  abbrev x : Added
+  x = adding (d .writer) (d .now .words) kind vs
+
+  pub after-finished : adding (d .writer) (d .now .words) kind vs .answer ≡ Finished
+      → after d (adds kind vs) ≡ addedBy Finished (adding (d .writer) (d .now .words) kind vs) d kind vs
+  unfolding after
+  after-finished e = ap (λ (a : Laid). addedBy a x d kind vs) e
+
+  pub after-unfinished : adding (d .writer) (d .now .words) kind vs .answer ≡ Unfinished
+      → after d (adds kind vs) ≡ addedBy Unfinished (adding (d .writer) (d .now .words) kind vs) d kind vs
+  unfolding after
+  after-unfinished e = ap (λ (a : Laid). addedBy a x d kind vs) e
+
+  -- a refused addition has a fault
+  pub refused-fault : (k : ℕ) → adding (d .writer) (d .now .words) kind vs .answer ≡ Not k → addFault (d .writer) (length (d .now .words)) kind vs ≡ 0 → ⊥
+  refused-fault k e ok = laid-not k _ (sym (ap (λ (y : Added). y .answer) (add-leaves (d .writer) (d .now .words) kind vs ok)) ∙ e)
+
+  pub add-refused-same : (k : ℕ) → adding (d .writer) (d .now .words) kind vs .answer ≡ Not k → after d (adds kind vs) ≡ d
+  unfolding after
+  add-refused-same k e =
+      let s = add-stays (d .writer) (d .now .words) kind vs (refused-fault k e) in
+      ap (λ (a : Laid). addedBy a x d kind vs) e
+      ∙ ap₂ (moves d) (ap (λ (y : Added). y .state) s) (ap (λ (y : Added). y .line) s)
+
+-- ---- closing
+module _ (d : Desk) where
+  pub after-closed : closing (d .writer) (d .now .words) .answer ≡ Done → after d closes ≡ closedBy Done (closing (d .writer) (d .now .words)) d
+  unfolding after
+  after-closed e = ap (λ (a : Answer). closedBy a (closing (d .writer) (d .now .words)) d) e
+
+  pub close-refused-same : (k : ℕ) → closing (d .writer) (d .now .words) .answer ≡ Refused k → after d closes ≡ d
+  unfolding after
+  close-refused-same k e =
+      let z = close-keeps (d .writer) (d .now .words) k e in
+      ap (λ (a : Answer). closedBy a (closing (d .writer) (d .now .words)) d) e ∙ ap₂ (moves d) (z .0) (z .1)
+
+-- ---- what holds of the desk, by the system and the mode of its state
+pub own : (system mode : ℕ) (d : Desk) → DeskOk system mode d → DeskOk (d .writer .system) (d .writer .mode) d
+own system mode d ok =
+    subst (λ (s : ℕ). DeskOk s (d .writer .mode) d) (sym (ok .of-system)) (subst (λ (m : ℕ). DeskOk system m d) (sym (ok .of-mode)) ok)
+
+pub by-own : (system mode : ℕ) (d : Desk) (P : ℕ → ℕ → Type 0) → DeskOk system mode d → P (d .writer .system) (d .writer .mode) → P system mode
+by-own system mode d P ok p = subst (λ (s : ℕ). P s mode) (ok .of-system) (subst (λ (m : ℕ). P (d .writer .system) m) (ok .of-mode) p)
+
+-- an unfinished block stays where the block type of the settings does
+pub owing-stays : (mode : ℕ) (d : Desk) (w : Writer) (s : Sent) (c kind n j : ℕ) → w .settings .block ≡ d .writer .settings .block → Owing mode d kind n j
+    → Owing mode (record { writer = w; now = s; closed = c; values = d .values; pieces = d .pieces }) kind n j
+owing-stays mode d w s c kind n j e o =
+    record {
+      variable = ap isVariable e ∙ o .variable;
+      long = o .long;
+      small = o .small;
+      at-most = o .at-most;
+      values-fit = o .values-fit;
+      some = o .some;
+      short = o .short;
+      words = o .words;
+    }
+
+-- opening and adding close no line
+pub open-closed : (d : Desk) (f v : Bool) (n : ℕ) (t : Settings) (held : Held t) (lent : List ℕ) → after d (opens f v n t held lent) .closed ≡ d .closed
+unfolding after
+open-closed d f v n t held lent = by (opening (d .writer) f v n t lent .answer)
+  where
+    by : (z : Answer) → openedBy z (opening (d .writer) f v n t lent) d f v n t .closed ≡ d .closed
+    by (Refused k) = refl
+    by Done = refl
+
+pub add-closed : (d : Desk) (kind : ℕ) (vs : List ℕ) → after d (adds kind vs) .closed ≡ d .closed
+unfolding after
+add-closed d kind vs = by (adding (d .writer) (d .now .words) kind vs .answer)
+  where
+    by : (z : Laid) → addedBy z (adding (d .writer) (d .now .words) kind vs) d kind vs .closed ≡ d .closed
+    by (Not k) = refl
+    by Finished = refl
+    by Unfinished = refl

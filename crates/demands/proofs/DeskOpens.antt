@@ -1,0 +1,116 @@
+-- A line opened: what an accepted opening says, and that the desk holds what it held.
+-- Assumes nothing.
+use mathlib.Core.Path.{_≡_, refl, sym, ap, _∙_, subst}
+use mathlib.Core.Bool.{Bool, true, false, _&&_, _||_, not}
+use mathlib.Core.List.{List, []}
+use Prim.Native.Nat.{ℕ}
+use native.Mathlib.Nat.{sub-zero}
+use native.Mathlib.Omega.{arith}
+use lib.ListN.{length, replicate}
+use borrow.Author.Tests.{not-false}
+use Rattle.lists.proofs.Tests.{true-false, or-false}
+use Rattle.line.specs.declared.settings.Settings.{Settings}
+use Rattle.line.specs.Systems.{systemOf}
+use Rattle.line.specs.Settings.{Held, sameSettings}
+use Rattle.line.specs.Layout.{framed}
+use Rattle.course.specs.declared.Place.{Place}
+use Rattle.course.specs.declared.Place.the-variants.{Shut, At}
+use Rattle.course.specs.Course.{isAt}
+use Rattle.writer.specs.declared.state.Rest.the-variants.{Part}
+use Rattle.writer.specs.declared.state.Answer.the-variants.{Done}
+use Rattle.writer.specs.State.{isPart}
+use Rattle.writer.specs.Answers.{Left, left}
+use Rattle.writer.specs.Opening.{isNext, openBlocked, openState, openWords, opening}
+use Rattle.writer.proofs.Keeps.{open-clear, open-leaves}
+use Rattle.writer.proofs.Refusals.{CanOpen, can-open}
+use Rattle.writer.proofs.Stays.{open-possible}
+use Rattle.writer.proofs.Pieces.{open-goes}
+use Rattle.writer.proofs.Writing.{Open}
+use Rattle.demands.specs.Sending.{Desk, openedBy}
+use Rattle.demands.proofs.DeskOk.{DeskOk}
+use Rattle.demands.proofs.Outcomes.{Opens}
+use Rattle.demands.proofs.DeskCalls.{own, by-own, owing-stays}
+
+-- ---- what 20 lets pass
+is-shut : (p : Place) → isAt p ≡ false → p ≡ Shut
+is-shut Shut e = refl
+is-shut (At q) e = absurd (true-false e)
+
+-- an unfinished block goes on with the same settings and the next number
+goes-by : (part same next : Bool) → (part && (not same || not next)) ≡ false → part ≡ true → (same ≡ true) × (next ≡ true)
+goes-by true same next e p = let h = or-false (not same) (not next) e in (not-false same (h .0), not-false next (h .1))
+goes-by false same next e p = absurd (true-false (sym p))
+
+module _ (d : Desk) (f v : Bool) (n : ℕ) (t : Settings) (lent : List ℕ) (done : opening (d .writer) f v n t lent .answer ≡ Done) where
+  finds : CanOpen (d .writer) n t (length lent)
+  finds = can-open (d .writer) n t (length lent) (open-clear (d .writer) f v n t lent done)
+
+  leaves : opening (d .writer) f v n t lent ≡ left Done (openState (d .writer) n t) (openWords (d .writer .system) f v n t)
+  leaves = open-leaves (d .writer) f v n t lent (open-clear (d .writer) f v n t lent done)
+
+  own-opens : Opens (d .writer .system) d f v n t lent
+  unfolding openBlocked
+  own-opens =
+      let w = d .writer in
+      let b = or-false (isAt (w .place)) _ (finds .free) in
+      record {
+        was-shut = is-shut (w .place) (b .0);
+        place = ap (λ (x : Left). x .state .place) leaves;
+        rest = ap (λ (x : Left). x .state .rest) leaves;
+        last = ap (λ (x : Left). x .state .last) leaves;
+        settings = ap (λ (x : Left). x .state .settings) leaves;
+        goes-on = goes-by (isPart (w .rest)) (sameSettings t (w .settings)) (isNext (systemOf (w .system) .lines) (w .last) n) (b .1);
+      }
+
+  -- nothing is laid yet
+  opened-line : Open (d .writer .system) (d .writer .mode) f v n t [] (opening (d .writer) f v n t lent .state) (opening (d .writer) f v n t lent .line)
+  unfolding openWords
+  opened-line =
+      record {
+        of-system = ap (λ (x : Left). x .state .system) leaves;
+        of-mode = ap (λ (x : Left). x .state .mode) leaves;
+        of-settings = ap (λ (x : Left). x .state .settings) leaves;
+        of-place = ap (λ (x : Left). x .state .place) leaves;
+        within = omega arith;
+        words = refl;
+        is = ap (λ (x : Left). x .line) leaves
+            ∙ ap (λ (m : ℕ). framed (systemOf (d .writer .system)) f v n t (replicate m 0x200)) (sym (sub-zero (systemOf (d .writer .system) .payload)));
+      }
+
+  own-opened : Held t → DeskOk (d .writer .system) (d .writer .mode) d
+      → DeskOk (d .writer .system) (d .writer .mode) (openedBy Done (opening (d .writer) f v n t lent) d f v n t)
+  own-opened held ok =
+      let rest : opening (d .writer) f v n t lent .state .rest ≡ d .writer .rest = own-opens .rest in
+      record {
+        of-system = opened-line .of-system;
+        of-mode = opened-line .of-mode;
+        possible = open-possible (d .writer) f v n t lent (ok .possible);
+        opened = λ at. record {
+          is-open = opened-line;
+          held = held;
+          known = finds .known;
+          moded = finds .moded;
+          row = finds .row;
+          clean = finds .clean;
+          one = finds .one;
+          most-lines = finds .last;
+          last-is = own-opens .last;
+          placed = λ fixed. tt;
+        };
+        none-owing = λ r. ok .none-owing (sym rest ∙ r);
+        owing = λ kind m j r.
+            let part : d .writer .rest ≡ Part kind m j = sym rest ∙ r in
+            owing-stays (d .writer .mode) d (opening (d .writer) f v n t lent .state) _ (d .closed) kind m j
+            (open-goes (d .writer) f v n t lent (ap isPart part) .block) (ok .owing kind m j part);
+      }
+
+-- ---- an accepted opening
+pub opens-say : (system mode : ℕ) (d : Desk) (f v : Bool) (n : ℕ) (t : Settings) (lent : List ℕ) → DeskOk system mode d
+    → opening (d .writer) f v n t lent .answer ≡ Done → Opens system d f v n t lent
+opens-say system mode d f v n t lent ok done = subst (λ (s : ℕ). Opens s d f v n t lent) (ok .of-system) (own-opens d f v n t lent done)
+
+pub opened-ok : (system mode : ℕ) (d : Desk) (f v : Bool) (n : ℕ) (t : Settings) (lent : List ℕ) → Held t → DeskOk system mode d
+    → opening (d .writer) f v n t lent .answer ≡ Done → DeskOk system mode (openedBy Done (opening (d .writer) f v n t lent) d f v n t)
+opened-ok system mode d f v n t lent held ok done =
+    by-own system mode d (λ (s m : ℕ). DeskOk s m (openedBy Done (opening (d .writer) f v n t lent) d f v n t)) ok
+    (own-opened d f v n t lent done held (own system mode d ok))

@@ -1,0 +1,164 @@
+-- A walk stops at the first report. Against the run to the words' end: what is heard up to there, and the run over the words that are left.
+-- Assumes nothing.
+use mathlib.Core.Path.{_≡_, refl, sym, ap, ap₂, _∙_, subst}
+use mathlib.Core.Bool.{true}
+use mathlib.Core.List.{List, [], _∷_, _++_, map}
+use Prim.Native.Nat.{ℕ, suc, _+_, _*_, _≤_}
+use native.Mathlib.Nat.{zero-mul, one-mul, suc-mul}
+use native.Mathlib.Omega.{arith}
+use lib.Dec.{T}
+use lib.ListN.{length, getD, drop}
+use Rattle.words.specs.Modes.{valueOf}
+use Rattle.reader.specs.declared.machine.Phase.{Phase}
+use Rattle.reader.specs.declared.machine.Met.{Met}
+use Rattle.reader.specs.declared.machine.Met.the-variants.{Nothing, Whole, Lost}
+use Rattle.reader.specs.Machine.{stepOf}
+use Rattle.reader.specs.Walk.{Walk, after, past, unless, isNothing, collectedOf, stored, walkOf}
+use Rattle.reader.specs.Places.{metAt, placeRoom, walkPlaces}
+use Rattle.demands.specs.Hearing.{Heard}
+use Rattle.demands.proofs.Run.{Now, now, metHeard, stepTo, stepOut, runTo, runOut, placeTo, placeOut, placesTo, placesOut}
+use Rattle.demands.proofs.DeskOk.{AllLong}
+
+-- one element more was taken
+pub drop-one-more : {A : Type 0} (n : ℕ) (x : A) (xs : List A) → drop (1 + n) (x ∷ xs) ≡ drop n xs
+drop-one-more {A} n x xs = let e : 1 + n ≡ suc n = omega arith in ap {B = List A} (λ (k : ℕ). drop k (x ∷ xs)) e
+
+-- ---- words
+pub record Runs (mode : ℕ) (p : Phase) (ws room : List ℕ) (x : Walk) : Type 0 where
+  pub out : runOut mode (now p room) ws ≡ metHeard (x .answer .met) (x .room) ++ runOut mode (now (x .answer .phase) (x .room)) (drop (x .answer .taken) ws)
+  pub to : runTo mode (now p room) ws ≡ runTo mode (now (x .answer .phase) (x .room)) (drop (x .answer .taken) ws)
+  pub all : isNothing (x .answer .met) ≡ true → x .answer .taken ≡ length ws
+
+-- after one word that leaves phase s and room r
+word-runs : (mode : ℕ) (p s : Phase) (w : ℕ) (ws room r : List ℕ) (met : Met) (on : Walk)
+    → stepTo mode (now p room) w ≡ now s r → stepOut mode (now p room) w ≡ metHeard met r → Runs mode s ws r on
+    → Runs mode p (w ∷ ws) room (unless met (after s met 1 r) (past 1 on))
+word-runs mode p s w ws room r Nothing on e f h =
+    let left = drop-one-more (on .answer .taken) w ws in
+    record {
+      out =
+          ap₂ (λ (a : List Heard) (q : Now). a ++ runOut mode q ws) f e
+          ∙ h .out
+          ∙ ap {B = List Heard} (λ (l : List ℕ). metHeard (on .answer .met) (on .room) ++ runOut mode (now (on .answer .phase) (on .room)) l) (sym left);
+      to =
+          ap (λ (q : Now). runTo mode q ws) e ∙ h .to ∙ ap (λ (l : List ℕ). runTo mode (now (on .answer .phase) (on .room)) l) (sym left);
+      all = λ n. omega (arith, h .all n);
+    }
+word-runs mode p s w ws room r (Whole k n) on e f h =
+    record {
+      out = ap₂ (λ (a : List Heard) (q : Now). a ++ runOut mode q ws) f e;
+      to = ap (λ (q : Now). runTo mode q ws) e;
+      all = λ z. absurd (subst T (sym z) tt);
+    }
+word-runs mode p s w ws room r (Lost n) on e f h =
+    record {
+      out = ap₂ (λ (a : List Heard) (q : Now). a ++ runOut mode q ws) f e;
+      to = ap (λ (q : Now). runTo mode q ws) e;
+      all = λ z. absurd (subst T (sym z) tt);
+    }
+
+pub walk-runs : (mode : ℕ) (p : Phase) (ws room : List ℕ) → Runs mode p ws room (walkOf mode p ws room)
+unfolding walkOf stepTo stepOut
+walk-runs mode p [] room = record { out = refl; to = refl; all = λ e. refl }
+walk-runs mode p (w ∷ ws) room =
+    let s = stepOf (length room) p w in
+    let r = stored (s .keeps) (collectedOf p) (valueOf mode w) room in
+    word-runs mode p (s .phase) w ws room r (s .met) (walkOf mode (s .phase) ws r) refl refl (walk-runs mode (s .phase) ws r)
+
+module _ (mode : ℕ) (p : Phase) (ws room : List ℕ) where
+  -- what is heard to the words' end: the report, then what is heard of the words that are left
+  pub walk-out : runOut mode (now p room) ws
+      ≡ metHeard (walkOf mode p ws room .answer .met) (walkOf mode p ws room .room)
+      ++ runOut mode (now (walkOf mode p ws room .answer .phase) (walkOf mode p ws room .room)) (drop (walkOf mode p ws room .answer .taken) ws)
+  walk-out = walk-runs mode p ws room .out
+
+  pub walk-to : runTo mode (now p room) ws
+      ≡ runTo mode (now (walkOf mode p ws room .answer .phase) (walkOf mode p ws room .room)) (drop (walkOf mode p ws room .answer .taken) ws)
+  walk-to = walk-runs mode p ws room .to
+
+  -- nothing met: every word was taken
+  pub walk-all : isNothing (walkOf mode p ws room .answer .met) ≡ true → walkOf mode p ws room .answer .taken ≡ length ws
+  walk-all = walk-runs mode p ws room .all
+
+-- ---- places
+-- so many places were taken, and the phase is as it was
+pub record Passes (mode : ℕ) (p : Phase) (xs : List (List ℕ)) (room : List ℕ) (x : Walk) : Type 0 where
+  pub count : ℕ
+  pub within : count ≤ length xs
+  pub taken : (size : ℕ) → AllLong size xs → x .answer .taken ≡ count * size
+  pub phase : x .answer .phase ≡ p
+  pub out : placesOut mode room xs ≡ metHeard (x .answer .met) (x .room) ++ placesOut mode (x .room) (drop count xs)
+  pub to : placesTo mode room xs ≡ placesTo mode (x .room) (drop count xs)
+  pub all : isNothing (x .answer .met) ≡ true → count ≡ length xs
+
+-- after one place that leaves room r, the same room where nothing is met
+place-passes : (mode : ℕ) (p : Phase) (x : List ℕ) (xs : List (List ℕ)) (room r : List ℕ) (met : Met) (on : Walk)
+    → placeTo mode x room ≡ r → placeOut mode x room ≡ metHeard met r → (met ≡ Nothing → r ≡ room) → Passes mode p xs room on
+    → Passes mode p (x ∷ xs) room (unless met (after p met (length x) r) (past (length x) on))
+place-passes mode p x xs room r Nothing on e f same h =
+    let left = drop-one-more (h .count) x xs in
+    let to-room = e ∙ same refl in
+    let next : 1 + h .count ≡ suc (h .count) = omega arith in
+    record {
+      count = 1 + h .count;
+      within = omega (arith, h .within);
+      taken = λ size l. omega (arith, l .0, h .taken size (l .1), ap (λ (n : ℕ). n * size) next, suc-mul (h .count) size);
+      phase = h .phase;
+      out =
+          ap₂ (λ (a : List Heard) (q : List ℕ). a ++ placesOut mode q xs) f to-room
+          ∙ h .out
+          ∙ ap {B = List Heard} (λ (l : List (List ℕ)). metHeard (on .answer .met) (on .room) ++ placesOut mode (on .room) l) (sym left);
+      to = ap (λ (q : List ℕ). placesTo mode q xs) to-room ∙ h .to ∙ ap (λ (l : List (List ℕ)). placesTo mode (on .room) l) (sym left);
+      all = λ n. omega (arith, h .all n);
+    }
+place-passes mode p x xs room r (Whole k n) on e f same h =
+    record {
+      count = 1;
+      within = omega arith;
+      taken = λ size l. l .0 ∙ sym (one-mul size);
+      phase = refl;
+      out = ap₂ (λ (a : List Heard) (q : List ℕ). a ++ placesOut mode q xs) f e;
+      to = ap (λ (q : List ℕ). placesTo mode q xs) e;
+      all = λ z. absurd (subst T (sym z) tt);
+    }
+place-passes mode p x xs room r (Lost n) on e f same h =
+    record {
+      count = 1;
+      within = omega arith;
+      taken = λ size l. l .0 ∙ sym (one-mul size);
+      phase = refl;
+      out = ap₂ (λ (a : List Heard) (q : List ℕ). a ++ placesOut mode q xs) f e;
+      to = ap (λ (q : List ℕ). placesTo mode q xs) e;
+      all = λ z. absurd (subst T (sym z) tt);
+    }
+
+pub places-pass : (mode : ℕ) (p : Phase) (xs : List (List ℕ)) (room : List ℕ) → Passes mode p xs room (walkPlaces mode p xs room)
+unfolding walkPlaces placeTo placeOut
+places-pass mode p [] room =
+    record { count = 0; within = omega arith; taken = λ size l. sym (zero-mul size); phase = refl; out = refl; to = refl; all = λ e. refl }
+places-pass mode p (x ∷ xs) room =
+    let met = metAt (getD x 0 0) (length (drop 1 x)) in
+    let vs = map (valueOf mode) (drop 1 x) in
+    place-passes mode p x xs room (placeRoom met vs room) met (walkPlaces mode p xs room) refl refl
+    (λ e. ap (λ (m : Met). placeRoom m vs room) e) (places-pass mode p xs room)
+
+module _ (mode : ℕ) (p : Phase) (xs : List (List ℕ)) (room : List ℕ) where
+  -- the number of places that a walk takes is `places-pass mode p xs room .count`
+  pub places-taken : (size : ℕ) → AllLong size xs → walkPlaces mode p xs room .answer .taken ≡ places-pass mode p xs room .count * size
+  places-taken = places-pass mode p xs room .taken
+
+  pub places-phase : walkPlaces mode p xs room .answer .phase ≡ p
+  places-phase = places-pass mode p xs room .phase
+
+  -- what is heard to the last place: the report, then what is heard of the places that are left
+  pub places-out : placesOut mode room xs
+      ≡ metHeard (walkPlaces mode p xs room .answer .met) (walkPlaces mode p xs room .room)
+      ++ placesOut mode (walkPlaces mode p xs room .room) (drop (places-pass mode p xs room .count) xs)
+  places-out = places-pass mode p xs room .out
+
+  pub places-to : placesTo mode room xs ≡ placesTo mode (walkPlaces mode p xs room .room) (drop (places-pass mode p xs room .count) xs)
+  places-to = places-pass mode p xs room .to
+
+  -- nothing met: every place was taken
+  pub places-all : isNothing (walkPlaces mode p xs room .answer .met) ≡ true → places-pass mode p xs room .count ≡ length xs
+  places-all = places-pass mode p xs room .all

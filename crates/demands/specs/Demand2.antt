@@ -1,0 +1,74 @@
+-- DEMAND 2. Every line opened, filled and closed is the line that BT.1381-2 and document 01 define, word by word. A line is accepted exactly
+-- if 01's checks find no fault. A fresh reader lent a fresh writer's lines gives back the headers and the finished blocks. An accepted header
+-- written again gives the same 53 words.
+-- Assumes nothing.
+use Prim.Native.Nat.{ℕ, _≤_}
+use mathlib.Core.Bool.{false}
+use mathlib.Core.List.{List, [], _∷_, _++_, map}
+use mathlib.Core.Path.{_≡_}
+use lib.Dec.{eqb}
+use lib.ListN.{length}
+use Rattle.lists.specs.Lists.{part}
+use Rattle.line.specs.Systems.{systemOf}
+use Rattle.line.specs.Header.{headerWords}
+use Rattle.line.specs.Layout.{lineWords}
+use Rattle.line.specs.Check.{numberOf, settingsOf, lineFault}
+use Rattle.course.specs.declared.Last.{Last}
+use Rattle.course.specs.declared.Last.the-variants.{Unknown, Number}
+use Rattle.course.specs.declared.Place.the-variants.{Shut}
+use Rattle.writer.specs.Block.{wordsIn}
+use Rattle.writer.specs.Course.{areaFrom}
+use Rattle.reader.specs.declared.state.Reader.{Reader}
+use Rattle.reader.specs.State.{capacity, fresh}
+use Rattle.reader.specs.Jump.{jumpFrom}
+use Rattle.reader.specs.Reading.{readFault, reading}
+use Rattle.reader.specs.Lending.{isBegun}
+use Rattle.demands.specs.Sending.{Call, Piece, Complete, Sent, sentFresh, joinedPieces}
+use Rattle.demands.specs.Hearing.{Heard, is-begun, is-block, is-end, Reads, Readable}
+
+-- The line is 01's: EAV, header, gap, SAV, then the area, which is what was laid and filler behind it, and the CRC words.
+abbrev pub IsLine : ℕ → Sent → Type 0
+IsLine system s =
+    s .words ≡ lineWords (systemOf system) (s .f) (s .v) (s .number) (s .settings) (areaFrom (systemOf system .payload) (s .settings .flag) (s .pieces))
+
+abbrev pub AreLines : ℕ → List Sent → Type 0
+AreLines system [] = Unit {0}
+AreLines system (s ∷ ss) = IsLine system s × AreLines system ss
+
+-- The pieces in which a block was laid, each with one word or more, are joined the block's words, by the block type of the line on which it was finished.
+abbrev pub NoneEmpty : List Piece → Type 0
+NoneEmpty [] = Unit {0}
+NoneEmpty (p ∷ ps) = (1 ≤ length (p .words)) × NoneEmpty ps
+
+abbrev pub IsBlock : ℕ → ℕ → Complete → Type 0
+IsBlock block mode b = (joinedPieces (b .pieces) ≡ wordsIn block mode (b .block .kind) (b .block .values)) × NoneEmpty (b .pieces)
+
+abbrev pub AreBlocks : ℕ → ℕ → List Complete → Type 0
+AreBlocks block mode [] = Unit {0}
+AreBlocks block mode (b ∷ bs) = IsBlock block mode b × AreBlocks block mode bs
+
+abbrev pub HaveBlocks : ℕ → List Sent → Type 0
+HaveBlocks mode [] = Unit {0}
+HaveBlocks mode (s ∷ ss) = AreBlocks (s .settings .block) mode (s .blocks) × HaveBlocks mode ss
+
+-- What is heard of lines in order: each is begun with its number, the jump from the number before it, nothing dropped, and its settings;
+-- then the blocks finished on it; then its end. No drop and no refusal.
+unfoldable pub givenBack : ℕ → Last → List Sent → List Heard
+givenBack lines before [] = []
+givenBack lines before (s ∷ ss) =
+    is-begun (s .number) (jumpFrom lines before (s .number)) false (s .settings)
+    ∷ (map (λ (b : Complete). is-block (b .block)) (s .blocks) ++ (is-end ∷ givenBack lines (Number (s .number)) ss))
+
+pub record Demand2 : Type 0 where
+  pub lines : (system mode : ℕ) (cs : List Call) → AreLines system (sentFresh system mode cs)
+  pub blocks : (system mode : ℕ) (cs : List Call) → HaveBlocks mode (sentFresh system mode cs)
+  -- with no line begun, and neither 1 nor 2: begun exactly if none of the conditions 3 to 16 holds
+  pub accepted : (st : Reader) (line room : List ℕ) → readFault st (length line) (length room) ≡ 0 → st .place ≡ Shut
+      → isBegun (reading st line room .told .event) ≡ eqb (lineFault (st .system) (st .mode) line) 0
+  -- any system and mode, any calls, a room of 16,384 words with any content
+  pub heard : (system mode : ℕ) (cs : List Call) (room : List ℕ) → length room ≡ capacity → (hs : List Heard)
+      → Reads (fresh system mode) room (map (λ (s : Sent). s .words) (sentFresh system mode cs)) hs
+      → hs ≡ givenBack (systemOf system .lines) Unknown (sentFresh system mode cs)
+  -- and such a course of reading calls exists
+  pub readable : (system mode : ℕ) (cs : List Call) (room : List ℕ) → Readable (fresh system mode) room (map (λ (s : Sent). s .words) (sentFresh system mode cs))
+  pub rewritten : (system mode : ℕ) (line : List ℕ) → lineFault system mode line ≡ 0 → part 4 53 line ≡ headerWords (numberOf line) (settingsOf line)

@@ -1,0 +1,60 @@
+-- DEMAND 3. Finished variable-size blocks, each lent unchanged until finished, written by a fresh writer on lines with consecutive numbers, one mode
+-- and one set of settings; any separate runs of lines removed, each shorter than one frame, and any other lines replaced by words of the same length
+-- that the line check refuses: a fresh reader of that system and mode, lent the rest once each and in order, hands out exactly the blocks none of
+-- whose words lay on a removed or replaced line, in order, with types and values as written.
+-- Assumes nothing.
+use Prim.Native.Nat.{ℕ, _+_, _≤_}
+use mathlib.Core.Logic.{_⊎_}
+use mathlib.Core.List.{List, [], _∷_}
+use mathlib.Core.Path.{_≡_}
+use lib.ListN.{length}
+use Rattle.line.specs.Systems.{systemOf}
+use Rattle.line.specs.Layout.{areaLength}
+use Rattle.line.specs.Check.{settingsOf}
+use Rattle.course.specs.declared.Place.the-variants.{Shut}
+use Rattle.course.specs.Course.{nextNumber}
+use Rattle.writer.specs.declared.state.Rest.the-variants.{Whole}
+use Rattle.reader.specs.declared.state.Reader.{Reader}
+use Rattle.reader.specs.State.{capacity, fresh}
+use Rattle.demands.specs.Sending.{Call, Sent, Desk, valuesNow, sentFresh, blocksOf}
+use Rattle.demands.specs.Hearing.{Heard, is-refused, is-begun, is-block, is-drop, is-end, Lends, Reads, Readable, handedOut}
+use Rattle.demands.specs.Damage.{Fate, remain, Refusing, RunsBelow, keptAt, survivors}
+
+-- each number comes after the number before it; the number after N is 1
+abbrev pub Follows : ℕ → ℕ → List Sent → Type 0
+Follows lines x [] = Unit {0}
+Follows lines x (s ∷ ss) = (s .number ≡ nextNumber lines x) × Follows lines (s .number) ss
+
+abbrev pub Consecutive : ℕ → List Sent → Type 0
+Consecutive lines [] = Unit {0}
+Consecutive lines (s ∷ ss) = Follows lines (s .number) ss
+
+-- A transmission: lines written by calls on a fresh writer, and their fates. The demand is of variable blocks and one set of settings; more is shown:
+-- fixed lines may stand between, and settings may change where the writer lets them, between two blocks.
+pub record Transmission (system mode : ℕ) (cs : List Call) (fs : List Fate) : Type 0 where
+  pub numbers : Consecutive (systemOf system .lines) (sentFresh system mode cs)
+  pub each-line : length fs ≡ length (sentFresh system mode cs)
+  pub runs : RunsBelow (systemOf system .lines) fs
+  pub refusing : Refusing system mode fs
+
+-- answers 1 and 2 are not among these
+abbrev pub From3 : List Heard → Type 0
+From3 [] = Unit {0}
+From3 (is-refused n dropped ∷ hs) = (3 ≤ n) × From3 hs
+From3 (is-begun n jump dropped t ∷ hs) = From3 hs
+From3 (is-block b ∷ hs) = From3 hs
+From3 (is-drop n ∷ hs) = From3 hs
+From3 (is-end ∷ hs) = From3 hs
+
+pub record Demand3 : Type 0 where
+  pub handed : (system mode : ℕ) (cs : List Call) (fs : List Fate) → Transmission system mode cs fs
+      → (room : List ℕ) → length room ≡ capacity → (hs : List Heard) → Reads (fresh system mode) room (remain fs (sentFresh system mode cs)) hs
+      → handedOut hs ≡ survivors (keptAt fs) (blocksOf (sentFresh system mode cs))
+  -- the values are those laid: of a new block those lent, and of a block lent again unchanged the same
+  pub lent : (d : Desk) (vs : List ℕ) → (d .writer .rest ≡ Whole) ⊎ (d .values ≡ vs) → valuesNow d vs ≡ vs
+  -- such a course of reading calls exists, each line ends within area + 2 calls, and neither 1 nor 2 is answered
+  pub readable : (system mode : ℕ) (room : List ℕ) (lines : List (List ℕ)) → Readable (fresh system mode) room lines
+  pub ends : (st : Reader) (line room : List ℕ) → st .place ≡ Shut → (hs : List Heard) (st′ : Reader) (room′ : List ℕ) → Lends line st room hs st′ room′
+      → length hs ≤ areaLength (systemOf (st .system) .payload) (settingsOf line .flag) + 2
+  pub served : (system mode : ℕ) (cs : List Call) (fs : List Fate) → Transmission system mode cs fs
+      → (room : List ℕ) → length room ≡ capacity → (hs : List Heard) → Reads (fresh system mode) room (remain fs (sentFresh system mode cs)) hs → From3 hs

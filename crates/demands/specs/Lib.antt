@@ -1,0 +1,5 @@
+pub mod Sending
+pub mod Hearing
+pub mod Damage
+pub mod Demand2
+pub mod Demand3

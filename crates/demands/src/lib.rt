@@ -1,0 +1,1 @@
+// The demands: definitions and theorems alone, over what the writer's and the reader's functions promise.
