@@ -2,17 +2,14 @@
 -- Assumes nothing.
 use mathlib.Core.Path.{_≡_, refl, sym, ap, _∙_, subst}
 use mathlib.Core.Bool.{Bool, true, false, _&&_, _||_, not}
-use mathlib.Core.List.{List, []}
+use mathlib.Core.List.{List}
 use Prim.Native.Nat.{ℕ}
-use native.Mathlib.Nat.{sub-zero}
-use native.Mathlib.Omega.{arith}
-use lib.ListN.{length, replicate}
+use lib.ListN.{length}
 use borrow.Author.Tests.{not-false}
 use Rattle.lists.proofs.Tests.{true-false, or-false}
 use Rattle.line.specs.declared.settings.Settings.{Settings}
 use Rattle.line.specs.Systems.{systemOf}
 use Rattle.line.specs.Settings.{Held, sameSettings}
-use Rattle.line.specs.Layout.{framed}
 use Rattle.course.specs.declared.Place.{Place}
 use Rattle.course.specs.declared.Place.the-variants.{Shut, At}
 use Rattle.course.specs.Course.{isAt}
@@ -25,7 +22,7 @@ use Rattle.writer.proofs.Keeps.{open-clear, open-leaves}
 use Rattle.writer.proofs.Refusals.{CanOpen, can-open}
 use Rattle.writer.proofs.Stays.{open-possible}
 use Rattle.writer.proofs.Pieces.{open-goes}
-use Rattle.writer.proofs.Writing.{Open}
+use Rattle.writer.proofs.Writing.{opened-line}
 use Rattle.demands.specs.Sending.{Desk, openedBy}
 use Rattle.demands.proofs.DeskOk.{DeskOk}
 use Rattle.demands.proofs.Outcomes.{Opens}
@@ -62,31 +59,17 @@ module _ (d : Desk) (f v : Bool) (n : ℕ) (t : Settings) (lent : List ℕ) (don
         goes-on = goes-by (isPart (w .rest)) (sameSettings t (w .settings)) (isNext (systemOf (w .system) .lines) (w .last) n) (b .1);
       }
 
-  -- nothing is laid yet
-  opened-line : Open (d .writer .system) (d .writer .mode) f v n t [] (opening (d .writer) f v n t lent .state) (opening (d .writer) f v n t lent .line)
-  unfolding openWords
-  opened-line =
-      record {
-        of-system = ap (λ (x : Left). x .state .system) leaves;
-        of-mode = ap (λ (x : Left). x .state .mode) leaves;
-        of-settings = ap (λ (x : Left). x .state .settings) leaves;
-        of-place = ap (λ (x : Left). x .state .place) leaves;
-        within = omega arith;
-        words = refl;
-        is = ap (λ (x : Left). x .line) leaves
-            ∙ ap (λ (m : ℕ). framed (systemOf (d .writer .system)) f v n t (replicate m 0x200)) (sym (sub-zero (systemOf (d .writer .system) .payload)));
-      }
-
   own-opened : Held t → DeskOk (d .writer .system) (d .writer .mode) d
       → DeskOk (d .writer .system) (d .writer .mode) (openedBy Done (opening (d .writer) f v n t lent) d f v n t)
   own-opened held ok =
       let rest : opening (d .writer) f v n t lent .state .rest ≡ d .writer .rest = own-opens .rest in
+      let line = opened-line (d .writer) f v n t lent done in
       record {
-        of-system = opened-line .of-system;
-        of-mode = opened-line .of-mode;
+        of-system = line .of-system;
+        of-mode = line .of-mode;
         possible = open-possible (d .writer) f v n t lent (ok .possible);
         opened = λ at. record {
-          is-open = opened-line;
+          is-open = line;
           held = held;
           known = finds .known;
           moded = finds .moded;

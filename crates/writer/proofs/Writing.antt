@@ -206,6 +206,23 @@ module _ (system mode : ℕ) (f v : Bool) (n : ℕ) (t : Settings) (held : Held 
 sum-back : (a k : ℕ) → a ≤ k → a + (k - a) ≡ k
 sum-back a k h = omega arith
 
+-- ---- a line opened: nothing is laid yet
+pub opened-line : (w : Writer) (f v : Bool) (n : ℕ) (t : Settings) (lent : List ℕ) → opening w f v n t lent .answer ≡ Done
+    → Open (w .system) (w .mode) f v n t [] (opening w f v n t lent .state) (opening w f v n t lent .line)
+unfolding openWords
+opened-line w f v n t lent done =
+    let e = open-leaves w f v n t lent (open-clear w f v n t lent done) in
+    record {
+      of-system = ap (λ (x : Left). x .state .system) e;
+      of-mode = ap (λ (x : Left). x .state .mode) e;
+      of-settings = ap (λ (x : Left). x .state .settings) e;
+      of-place = ap (λ (x : Left). x .state .place) e;
+      within = omega arith;
+      words = refl;
+      is = ap (λ (x : Left). x .line) e
+          ∙ ap (λ (m : ℕ). framed (systemOf (w .system)) f v n t (replicate m 0x200)) (sym (sub-zero (systemOf (w .system) .payload)));
+    }
+
 -- ---- an open line closed
 module _ (system mode : ℕ) (f v : Bool) (n : ℕ) (t : Settings) (held : Held t) (known : isSystem system ≡ true) (moded : isMode mode ≡ true)
     (row : Sound (systemOf system)) (clean : settingsFault system t ≡ 0) (one : 1 ≤ n) (last : n ≤ systemOf system .lines) (ps : List (List ℕ)) (w : Writer)
@@ -257,24 +274,10 @@ module _ (w : Writer) (f v : Bool) (n : ℕ) (t : Settings) (lent : List ℕ) (w
   start : CanOpen w n t (length lent)
   start = can-open w n t (length lent) (open-clear w f v n t lent (c .open-done))
 
-  opened-line : Open (w .system) (w .mode) f v n t [] (opening w f v n t lent .state) (opening w f v n t lent .line)
-  unfolding openWords
-  opened-line =
-      let e = open-leaves w f v n t lent (open-clear w f v n t lent (c .open-done)) in
-      record {
-        of-system = ap (λ (x : Left). x .state .system) e;
-        of-mode = ap (λ (x : Left). x .state .mode) e;
-        of-settings = ap (λ (x : Left). x .state .settings) e;
-        of-place = ap (λ (x : Left). x .state .place) e;
-        within = omega arith;
-        words = refl;
-        is = ap (λ (x : Left). x .line) e
-            ∙ ap (λ (m : ℕ). framed (systemOf (w .system)) f v n t (replicate m 0x200)) (sym (sub-zero (systemOf (w .system) .payload)));
-      }
-
   filled-line : Open (w .system) (w .mode) f v n t (joined ps) (c .last) (c .full)
   filled-line =
-      filling (w .system) (w .mode) f v n t held (start .known) (start .row) (start .clean) [] _ _ (c .last) (c .full) ps (c .calls) opened-line
+      filling (w .system) (w .mode) f v n t held (start .known) (start .row) (start .clean) [] _ _ (c .last) (c .full) ps (c .calls)
+      (opened-line w f v n t lent (c .open-done))
 
   pub written : Whole w f v n t ps line
   written =
