@@ -19,6 +19,7 @@ use Rattle.writer.specs.Opening.{opening}
 use Rattle.writer.specs.Adding.{adding}
 use Rattle.writer.specs.Closing.{closing}
 use Rattle.writer.proofs.Refusals.{can-add}
+use Rattle.writer.proofs.Writing.{written}
 use Rattle.reader.specs.State.{capacity, fresh}
 use Rattle.reader.specs.Jump.{jumpFrom}
 use Rattle.reader.proofs.Stays.{fresh-possible}
@@ -181,6 +182,7 @@ given-back lines before gone _ _ _ (one-replaced k dropped least more) g e = abs
 pub demand-2 : Demand2
 demand-2 = record {
   lines = λ system mode cs. lines-hold system mode cs (start system mode) (start-ok system mode);
+  any-line = λ w f v n t lent w′ line ps held c. written w f v n t lent w′ line ps held c .is;
   blocks = λ system mode cs. blocks-hold system mode cs (start system mode) (start-ok system mode) (tt, tt);
   accepted = accepted-exactly;
   heard = λ system mode cs room long hs r.

@@ -42,7 +42,7 @@ use Rattle.demands.proofs.Run.{Now, now, idle, runTo, runOut, placesTo,
 use Rattle.demands.proofs.RunLaws.{run-to-append, run-out-append}
 use Rattle.demands.proofs.BlockRun.{filler-out, filler-to}
 use Rattle.demands.proofs.PlaceRun.{empties, places-out-append, places-to-append, places-empty, places-stay, places-of, places-cut}
-use Rattle.demands.proofs.LineRun.{blockPart, areaOut, areaTo}
+use Rattle.demands.proofs.LineRun.{leftOut, leftTo, blockPart, areaOut, areaTo}
 use Rattle.demands.proofs.DeskOk.{AllLong, OpenNow, DeskOk}
 use Rattle.demands.proofs.Outcomes.{Closes}
 use Rattle.demands.proofs.Ahead.{blocksHeard, Matches, ByWords, ByPlaces, Inside, Between, Listens, Ahead}
@@ -208,7 +208,7 @@ module _ (system mode : ℕ) (keeps : ℕ → Bool) (d : Desk) (dk : DeskOk syst
 
   -- ---- any line
   pub area-heard : Inside mode keeps d q → areaOut (systemOf system .payload) mode (d .now .settings) q (blockPart system (d .now .settings) (closing (d .writer) (d .now .words) .line)) ≡ blocksHeard (survivors keeps (d .now .blocks))
-  unfolding areaOut
+  unfolding leftOut
   area-heard i = by (isVariable (t .block)) refl
     where
       by : (b : Bool) → isVariable (t .block) ≡ b → areaOut payload mode t q (blockPart system t line) ≡ blocksHeard (survivors keeps (d .now .blocks))
@@ -216,7 +216,7 @@ module _ (system mode : ℕ) (keeps : ℕ → Bool) (d : Desk) (dk : DeskOk syst
       by false v = pick-false _ _ v ∙ places-heard v (i .by-places v)
 
   pub area-left : Inside mode keeps d q → Matches mode keeps (d .pieces) (areaTo (systemOf system .payload) mode (d .now .settings) q (blockPart system (d .now .settings) (closing (d .writer) (d .now .words) .line)))
-  unfolding areaTo mid
+  unfolding leftTo mid
   area-left i = by (isVariable (t .block)) refl
     where
       by : (b : Bool) → isVariable (t .block) ≡ b → Matches mode keeps (d .pieces) (areaTo payload mode t q (blockPart system t line))

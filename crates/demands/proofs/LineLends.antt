@@ -35,7 +35,7 @@ use Rattle.reader.proofs.Accepts.{by-place, accepts, refuses}
 use Rattle.reader.proofs.Ends.{Same, unfaulted, call-moves}
 use Rattle.demands.specs.Hearing.{Heard, is-end, heardOf, hear, Lends, last, more}
 use Rattle.demands.proofs.Run.{Now, now, metHeard, runTo, runOut, placesTo, placesOut}
-use Rattle.demands.proofs.LineRun.{blockPart, areaOut, areaTo, Hears, Refuses}
+use Rattle.demands.proofs.LineRun.{leftOut, leftTo, blockPart, areaOut, areaTo, Hears, Refuses}
 use Rattle.demands.proofs.DeskOk.{AllLong}
 use Rattle.demands.proofs.WalkRun.{Runs, walk-runs, Passes, places-pass}
 
@@ -99,13 +99,7 @@ drop-places size (suc k) (suc n) ws =
     ∙ ap (placesIn size (n - k)) (drop-drop (k * size) size ws)
     ∙ ap₂ (λ (i j : ℕ). placesIn size i (drop j ws)) e m
 
--- ---- the area from a place on, to its end: by words in a variable line, by places in a fixed one
-unfoldable pub leftOut : ℕ → ℕ → ℕ → Now → List ℕ → List Heard
-leftOut mode block n q ws = pick (isVariable block) (runOut mode q ws) (placesOut mode (q .room) (placesIn (sizeOf block) n ws))
-
-unfoldable pub leftTo : ℕ → ℕ → ℕ → Now → List ℕ → Now
-leftTo mode block n q ws = pick (isVariable block) (runTo mode q ws) (now (q .phase) (placesTo mode (q .room) (placesIn (sizeOf block) n ws)))
-
+-- ---- the area from a place on, to its end
 -- the places that are left
 abbrev pub placesLeft : Reader → ℕ → ℕ
 placesLeft st q = placesOf (systemOf (st .system) .payload) (st .settings .block) - q / sizeOf (st .settings .block)
@@ -288,7 +282,7 @@ from-place st line room hs st′ room′ (more {hs = ks} h k) q at fit =
 -- all places are left, and all words
 rest-out : (st : Reader) (line room : List ℕ)
     → restOut st 0 line room ≡ areaOut (systemOf (st .system) .payload) (st .mode) (st .settings) (now (st .phase) room) (blockPart (st .system) (st .settings) line)
-unfolding restOut leftOut areaOut
+unfolding restOut
 rest-out st line room =
     let block = st .settings .block in
     let all : placesLeft st 0 ≡ placesOf (systemOf (st .system) .payload) block = omega (arith, zero-div (sizeOf block)) in
@@ -296,7 +290,7 @@ rest-out st line room =
 
 rest-to : (st : Reader) (line room : List ℕ)
     → restTo st 0 line room ≡ areaTo (systemOf (st .system) .payload) (st .mode) (st .settings) (now (st .phase) room) (blockPart (st .system) (st .settings) line)
-unfolding restTo leftTo areaTo
+unfolding restTo
 rest-to st line room =
     let block = st .settings .block in
     let all : placesLeft st 0 ≡ placesOf (systemOf (st .system) .payload) block = omega (arith, zero-div (sizeOf block)) in

@@ -26,14 +26,19 @@ use Rattle.demands.proofs.Run.{Now, now, runTo, runOut, placesTo, place
 abbrev pub blockPart : ℕ → Settings → List ℕ → List ℕ
 blockPart system t line = part (payloadAt (systemOf system)) (blocksEnd (systemOf system .payload) (t .block) (t .flag)) line
 
--- by words in a variable line, by places in a fixed one
-unfoldable pub areaOut : ℕ → ℕ → Settings → Now → List ℕ → List Heard
-areaOut payload mode t q ws =
-    pick (isVariable (t .block)) (runOut mode q ws) (placesOut mode (q .room) (placesIn (sizeOf (t .block)) (placesOf payload (t .block)) ws))
+-- words of an area to its end, in a fixed line n places: by words in a variable line, by places in a fixed one
+unfoldable pub leftOut : ℕ → ℕ → ℕ → Now → List ℕ → List Heard
+leftOut mode block n q ws = pick (isVariable block) (runOut mode q ws) (placesOut mode (q .room) (placesIn (sizeOf block) n ws))
 
-unfoldable pub areaTo : ℕ → ℕ → Settings → Now → List ℕ → Now
-areaTo payload mode t q ws =
-    pick (isVariable (t .block)) (runTo mode q ws) (now (q .phase) (placesTo mode (q .room) (placesIn (sizeOf (t .block)) (placesOf payload (t .block)) ws)))
+unfoldable pub leftTo : ℕ → ℕ → ℕ → Now → List ℕ → Now
+leftTo mode block n q ws = pick (isVariable block) (runTo mode q ws) (now (q .phase) (placesTo mode (q .room) (placesIn (sizeOf block) n ws)))
+
+-- the whole area
+abbrev pub areaOut : ℕ → ℕ → Settings → Now → List ℕ → List Heard
+areaOut payload mode t q ws = leftOut mode (t .block) (placesOf payload (t .block)) q ws
+
+abbrev pub areaTo : ℕ → ℕ → Settings → Now → List ℕ → Now
+areaTo payload mode t q ws = leftTo mode (t .block) (placesOf payload (t .block)) q ws
 
 -- the reader as it starts on the area of a line with that number and settings
 abbrev pub startNow : Reader → ℕ → Settings → List ℕ → Now

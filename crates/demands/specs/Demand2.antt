@@ -3,21 +3,24 @@
 -- written again gives the same 53 words.
 -- Assumes nothing.
 use Prim.Native.Nat.{ℕ, _≤_}
-use mathlib.Core.Bool.{false}
+use mathlib.Core.Bool.{Bool, false}
 use mathlib.Core.List.{List, [], _∷_, _++_, map}
 use mathlib.Core.Path.{_≡_}
 use lib.Dec.{eqb}
 use lib.ListN.{length}
 use Rattle.lists.specs.Lists.{part}
+use Rattle.line.specs.declared.settings.Settings.{Settings}
 use Rattle.line.specs.Systems.{systemOf}
+use Rattle.line.specs.Settings.{Held}
 use Rattle.line.specs.Header.{headerWords}
 use Rattle.line.specs.Layout.{lineWords}
 use Rattle.line.specs.Check.{numberOf, settingsOf, lineFault}
 use Rattle.course.specs.declared.Last.{Last}
 use Rattle.course.specs.declared.Last.the-variants.{Unknown, Number}
 use Rattle.course.specs.declared.Place.the-variants.{Shut}
+use Rattle.writer.specs.declared.state.Writer.{Writer}
 use Rattle.writer.specs.Block.{wordsIn}
-use Rattle.writer.specs.Course.{areaFrom}
+use Rattle.writer.specs.Course.{Written, areaFrom}
 use Rattle.reader.specs.declared.state.Reader.{Reader}
 use Rattle.reader.specs.State.{capacity, fresh}
 use Rattle.reader.specs.Jump.{jumpFrom}
@@ -61,6 +64,9 @@ givenBack lines before (s ∷ ss) =
 
 pub record Demand2 : Type 0 where
   pub lines : (system mode : ℕ) (cs : List Call) → AreLines system (sentFresh system mode cs)
+  -- and the same of a writer in any state, fresh or not: a line opened, filled by any calls and closed
+  pub any-line : (w : Writer) (f v : Bool) (n : ℕ) (t : Settings) (lent : List ℕ) (w′ : Writer) (line : List ℕ) (ps : List (List ℕ)) → Held t
+      → Written w f v n t lent w′ line ps → line ≡ lineWords (systemOf (w .system)) f v n t (areaFrom (systemOf (w .system) .payload) (t .flag) ps)
   pub blocks : (system mode : ℕ) (cs : List Call) → HaveBlocks mode (sentFresh system mode cs)
   -- with no line begun, and neither 1 nor 2: begun exactly if none of the conditions 3 to 16 holds
   pub accepted : (st : Reader) (line room : List ℕ) → readFault st (length line) (length room) ≡ 0 → st .place ≡ Shut
