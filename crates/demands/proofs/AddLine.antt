@@ -4,9 +4,7 @@ use Prim.Native.Nat.{ℕ, suc, _+_, _≤_}
 use mathlib.Core.Bool.{Bool, true, false}
 use mathlib.Core.List.{List, [], _∷_, _++_, map, append-nil}
 use mathlib.Core.Path.{_≡_, refl, sym, ap, ap₂, _∙_, subst}
-use mathlib.Core.Logic.{⊎-elim}
 use native.Mathlib.Omega.{arith}
-use lib.Dec.{eqb}
 use lib.ListN.{length, length-map}
 use Rattle.lists.specs.Tests.{pick}
 use Rattle.lists.proofs.Tests.{true-false, pick-true}
@@ -19,13 +17,12 @@ use Rattle.writer.specs.declared.state.Rest.{Rest}
 use Rattle.writer.specs.declared.state.Rest.the-variants.{Whole, Part}
 use Rattle.writer.specs.declared.state.Laid.the-variants.{Finished, Unfinished}
 use Rattle.writer.specs.State.{most, isPart, laidOf}
-use Rattle.writer.specs.Answers.{Added, laidNumbers}
-use Rattle.writer.specs.Adding.{addFault, todo, room, adding}
+use Rattle.writer.specs.Answers.{Added}
+use Rattle.writer.specs.Adding.{addFault, room, adding}
 use Rattle.writer.specs.Block.{fixedWords}
 use Rattle.writer.specs.Course.{joined, pieceOf}
-use Rattle.writer.proofs.Keeps.{add-leaves, add-stays}
+use Rattle.writer.proofs.Keeps.{add-leaves}
 use Rattle.writer.proofs.Refusals.{can-add}
-use Rattle.writer.proofs.Writing.{either}
 use Rattle.reader.specs.declared.state.Reader.{Reader}
 use Rattle.demands.specs.Sending.{Block, Complete, Desk, valuesNow, pieceNow, completeNow, addedBy}
 use Rattle.demands.specs.Hearing.{Heard, is-block}
@@ -38,6 +35,7 @@ use Rattle.demands.proofs.LineRun.{startNow}
 use Rattle.demands.proofs.DeskOk.{DeskOk}
 use Rattle.demands.proofs.Outcomes.{Varies, Fills}
 use Rattle.demands.proofs.DeskCalls.{joined-append}
+use Rattle.demands.proofs.DeskAdded.{rest-whole}
 use Rattle.demands.proofs.Ahead.{blocksHeard, Matches, ByWords, ByPlaces, Ahead}
 use Rattle.demands.proofs.StartLine.{matches-idle}
 use Rattle.demands.proofs.PieceRun.{all-one, all-lost, piece-ends, idle-again, piece-silent, matches-on}
@@ -66,32 +64,9 @@ one-more : (keeps : ℕ → Bool) (bs : List Complete) (b : Complete)
 one-more keeps bs b = ap blocksHeard (survivors-append keeps bs (b ∷ [])) ∙ heard-append (survivors keeps bs) (survivors keeps (b ∷ []))
 
 -- ---- an addition that was not refused
-none-by : (b : Bool) (r : Rest) → pick b Finished Unfinished ≡ Finished → pick b Whole r ≡ Whole
-unfolding pick
-none-by true r h = refl
-none-by false r h = absurd (let z : _≡_ {A = ℕ} 0 1 = cc in let k : ⊥ = omega arith in k)
-
-module _ (d : Desk) (kind : ℕ) (vs : List ℕ) where
-  abbrev x : Added
-  x = adding (d .writer) (d .now .words) kind vs
-
-  -- an answer of two numbers is no refusal
-  pub was-laid : length (laidNumbers (adding (d .writer) (d .now .words) kind vs .answer)) ≡ 2 → addFault (d .writer) (length (d .now .words)) kind vs ≡ 0
-  was-laid e =
-      ⊎-elim (λ z. z)
-      (λ h. absurd (let a = ap (λ (y : Added). length (laidNumbers (y .answer))) (add-stays (d .writer) (d .now .words) kind vs h) in let f : ⊥ = omega arith in f))
-      (either (addFault (d .writer) (length (d .now .words)) kind vs))
-
-  module _ (ok : addFault (d .writer) (length (d .now .words)) kind vs ≡ 0) where
-    still-open : adding (d .writer) (d .now .words) kind vs .state .place ≡ Shut → ⊥
-    still-open e = true-false (ap isAt (sym (ap (λ (y : Added). y .state .place) (add-leaves (d .writer) (d .now .words) kind vs ok)) ∙ e))
-
-    -- finished: nothing is owing
-    all-done : adding (d .writer) (d .now .words) kind vs .answer ≡ Finished → adding (d .writer) (d .now .words) kind vs .state .rest ≡ Whole
-    all-done e =
-        let l = add-leaves (d .writer) (d .now .words) kind vs ok in
-        ap (λ (y : Added). y .state .rest) l
-        ∙ none-by (eqb (room (d .writer) (todo (d .writer) kind vs)) (length (todo (d .writer) kind vs))) _ (sym (ap (λ (y : Added). y .answer) l) ∙ e)
+-- the line is open still
+still-open : (d : Desk) (kind : ℕ) (vs : List ℕ) → addFault (d .writer) (length (d .now .words)) kind vs ≡ 0 → adding (d .writer) (d .now .words) kind vs .state .place ≡ Shut → ⊥
+still-open d kind vs ok e = true-false (ap isAt (sym (ap (λ (y : Added). y .state .place) (add-leaves (d .writer) (d .now .words) kind vs ok)) ∙ e))
 
 module _ (system mode : ℕ) (keeps : ℕ → Bool) (before : Last) (gone : Bool) (d : Desk) (st : Reader) (room : List ℕ) (kind : ℕ) (vs : List ℕ)
     (dk : DeskOk system mode d) (ok : addFault (d .writer) (length (d .now .words)) kind vs ≡ 0) (at : isAt (d .writer .place) ≡ true)
@@ -200,7 +175,7 @@ module _ (system mode : ℕ) (keeps : ℕ → Bool) (before : Last) (gone : Bool
           by-places = λ v. places-end q (s .fills v) (i .by-places v) k;
         };
     quiet = λ z g. a .quiet at g;
-    missing = λ k p z l part. absurd (true-false (sym part ∙ ap isPart (all-done d kind vs ok e)));
+    missing = λ k p z l part. absurd (true-false (sym part ∙ ap isPart (rest-whole system mode d kind vs dk ok e)));
   }
 
   pub unfinished-ahead : Says → adding (d .writer) (d .now .words) kind vs .answer ≡ Unfinished

@@ -18,6 +18,7 @@ use Rattle.writer.specs.Answers.{laidNumbers}
 use Rattle.writer.specs.Opening.{opening}
 use Rattle.writer.specs.Adding.{adding}
 use Rattle.writer.specs.Closing.{closing}
+use Rattle.writer.proofs.Pieces.{laid-ok}
 use Rattle.writer.proofs.Refusals.{can-add}
 use Rattle.writer.proofs.Writing.{written}
 use Rattle.reader.specs.State.{capacity, fresh}
@@ -36,7 +37,6 @@ use Rattle.demands.proofs.DeskCloses.{closes-say}
 use Rattle.demands.proofs.DeskLaws.{start-ok, after-ok}
 use Rattle.demands.proofs.Ahead.{blocksHeard, Ahead, Agrees, Noticed, Tells, nothing-more, one-kept, one-removed, one-replaced}
 use Rattle.demands.proofs.StartLine.{matches-idle}
-use Rattle.demands.proofs.AddLine.{was-laid}
 use Rattle.demands.proofs.Follow.{follow}
 
 -- ---- a fresh writer and a fresh reader
@@ -82,7 +82,7 @@ module _ (system mode : ℕ) where
       by : (z : Laid) → adding (d .writer) (d .now .words) kind vs .answer ≡ z → Blocks (addedBy z (adding (d .writer) (d .now .words) kind vs) d kind vs)
       by (Not k) e = h
       by Finished e =
-          let ok = was-laid d kind vs (ap (λ (z : Laid). length (laidNumbers z)) e) in
+          let ok = laid-ok (d .writer) (d .now .words) kind vs (ap (λ (z : Laid). length (laidNumbers z)) e) in
           let at = can-add (d .writer) (d .now .words) kind vs ok .begun in
           let some = piece-some d kind vs ok in (
             one-block (d .now .settings .block) (d .now .blocks) (completeNow d kind vs) (h .0)
@@ -90,7 +90,7 @@ module _ (system mode : ℕ) where
             tt,
           )
       by Unfinished e =
-          let ok = was-laid d kind vs (ap (λ (z : Laid). length (laidNumbers z)) e) in
+          let ok = laid-ok (d .writer) (d .now .words) kind vs (ap (λ (z : Laid). length (laidNumbers z)) e) in
           (h .0, one-piece (d .pieces) (pieceNow d kind vs) (h .1) (piece-some d kind vs ok))
   blocks-after d closes dk h = by (closing (d .writer) (d .now .words) .answer)
     where

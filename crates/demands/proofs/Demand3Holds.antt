@@ -28,6 +28,7 @@ use Rattle.writer.specs.Closing.{closing}
 use Rattle.writer.specs.State.{laidOf}
 use Rattle.writer.specs.Course.{asLaid}
 use Rattle.writer.proofs.Keeps.{close-clear, close-leaves}
+use Rattle.writer.proofs.Pieces.{laid-ok}
 use Rattle.writer.proofs.Refusals.{can-close}
 use Rattle.reader.specs.State.{capacity, fresh}
 use Rattle.demands.specs.Sending.{Call, opens, adds, closes, Block, Complete, Sent, Desk, start, valuesNow, pieceNow, completeNow, closedBy, sendsBy, after, sends, sentBy, sentFresh, blocksOf}
@@ -40,7 +41,7 @@ use Rattle.demands.proofs.DeskAdds.{add-places}
 use Rattle.demands.proofs.DeskLaws.{start-ok}
 use Rattle.demands.proofs.Ahead.{blocksHeard, Agrees, Tells, nothing-more, one-kept, one-removed, one-replaced}
 use Rattle.demands.proofs.PieceRun.{all-lost}
-use Rattle.demands.proofs.AddLine.{survivors-append, was-laid}
+use Rattle.demands.proofs.AddLine.{survivors-append}
 use Rattle.demands.proofs.Follow.{follow}
 use Rattle.demands.proofs.Notices.{noticed}
 use Rattle.demands.proofs.Demand2Holds.{start-ahead}
@@ -75,7 +76,7 @@ module _ (keeps : ℕ → Bool) where
   add-lost d kind vs h = by (adding (d .writer) (d .now .words) kind vs .answer) refl
     where
       laid-open : length (laidNumbers (adding (d .writer) (d .now .words) kind vs .answer)) ≡ 2 → isAt (d .writer .place) ≡ true
-      laid-open e = add-places d kind vs (was-laid d kind vs e)
+      laid-open e = add-places d kind vs (laid-ok (d .writer) (d .now .words) kind vs e)
 
       by : (z : Laid) → adding (d .writer) (d .now .words) kind vs .answer ≡ z → NowLost (after d (adds kind vs))
       by (Not k) e = subst NowLost (sym (add-refused-same d kind vs k e)) h

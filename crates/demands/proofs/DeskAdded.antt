@@ -93,7 +93,7 @@ module _ (system mode : ℕ) (d : Desk) (kind : ℕ) (vs : List ℕ) (ok : DeskO
       }
 
   -- finished: no block is left
-  rest-whole : adding (d .writer) (d .now .words) kind vs .answer ≡ Finished → adding (d .writer) (d .now .words) kind vs .state .rest ≡ Whole
+  pub rest-whole : adding (d .writer) (d .now .words) kind vs .answer ≡ Finished → adding (d .writer) (d .now .words) kind vs .state .rest ≡ Whole
   rest-whole e = ap (λ (y : Added). y .state .rest) leaves ∙ pick-true _ _ (eq-eqb _ _ (all-now system mode d kind vs ok clear e))
 
   by-finished : adding (d .writer) (d .now .words) kind vs .answer ≡ Finished

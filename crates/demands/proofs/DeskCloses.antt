@@ -67,7 +67,7 @@ unfolding blocksEnd
 end-variable p block flag v = pick-true _ _ v
 
 -- ---- pieces of one size
-long-joined : (n : ℕ) (ps : List (List ℕ)) → AllLong n ps → length (joined ps) ≡ length ps * n
+pub long-joined : (n : ℕ) (ps : List (List ℕ)) → AllLong n ps → length (joined ps) ≡ length ps * n
 long-joined n [] h = sym (zero-mul n)
 long-joined n (p ∷ ps) h = let more = long-joined n ps (h .1) in omega (arith, h .0, length-append p (joined ps), suc-mul (length ps) n)
 

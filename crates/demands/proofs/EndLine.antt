@@ -2,11 +2,11 @@
 -- Assumes nothing.
 use Prim.Native.Nat.{ℕ, zero, suc, _+_, _-_, _*_, _≤_}
 use mathlib.Core.Bool.{Bool, true, false, not}
-use mathlib.Core.List.{List, [], _∷_, _++_, append-nil}
+use mathlib.Core.List.{List, [], _++_, append-nil}
 use mathlib.Core.Path.{_≡_, refl, sym, ap, ap₂, _∙_, subst}
 use native.Mathlib.Nat.{add-zero, add-mul}
 use native.Mathlib.Omega.{arith}
-use lib.ListN.{length, take, replicate, length-append}
+use lib.ListN.{length, take, replicate}
 use Rattle.lists.specs.Tests.{pick}
 use Rattle.lists.specs.Lists.{part}
 use Rattle.lists.proofs.Lists.{part-part}
@@ -43,8 +43,9 @@ use Rattle.demands.proofs.RunLaws.{run-to-append, run-out-append}
 use Rattle.demands.proofs.BlockRun.{filler-out, filler-to}
 use Rattle.demands.proofs.PlaceRun.{empties, places-out-append, places-to-append, places-empty, places-stay, places-of, places-cut}
 use Rattle.demands.proofs.LineRun.{leftOut, leftTo, blockPart, areaOut, areaTo}
-use Rattle.demands.proofs.DeskOk.{AllLong, OpenNow, DeskOk}
+use Rattle.demands.proofs.DeskOk.{OpenNow, DeskOk}
 use Rattle.demands.proofs.Outcomes.{Closes}
+use Rattle.demands.proofs.DeskCloses.{long-joined}
 use Rattle.demands.proofs.Ahead.{blocksHeard, Matches, ByWords, ByPlaces, Inside, Between, Listens, Ahead}
 use Rattle.demands.proofs.StartLine.{part-none, idle-behind, matches-idle}
 
@@ -71,19 +72,6 @@ pub serves : (system mode : ℕ) (before : Last) (st : Reader) (line room : List
 serves system mode before st line room fit l =
     unfaulted st line room
     (record { fit = ap₂ (λ (s m : ℕ). fitsLength s m (length line)) (l .of-system) (l .of-mode) ∙ fit; long = l .long; state = l .possible })
-
--- ---- places of one length
-joined-long : (size : ℕ) (xs : List (List ℕ)) → AllLong size xs → length (joined xs) ≡ length xs * size
-joined-long size [] a = sym (zero-times size)
-  where
-    zero-times : (n : ℕ) → 0 * n ≡ 0
-    zero-times n = omega arith
-joined-long size (x ∷ xs) a =
-    let ih = joined-long size xs (a .1) in
-    length-append x (joined xs) ∙ ap₂ (λ (i j : ℕ). i + j) (a .0) ih ∙ sym (next-times (length xs) size)
-  where
-    next-times : (n k : ℕ) → suc n * k ≡ k + n * k
-    next-times n k = omega arith
 
 module _ (system mode : ℕ) (keeps : ℕ → Bool) (d : Desk) (dk : DeskOk system mode d) (o : OpenNow system mode d) (c : Closes system mode d) (q : Now) where
   abbrev t : Settings
@@ -174,7 +162,7 @@ module _ (system mode : ℕ) (keeps : ℕ → Bool) (d : Desk) (dk : DeskOk syst
     fits-behind =
         let all : places ≡ length (d .now .pieces) + empty = omega (arith, c .within v) in
         let sum : places * size ≡ length (d .now .pieces) * size + empty * size = ap (λ (n : ℕ). n * size) all ∙ add-mul (length (d .now .pieces)) empty size in
-        let l = joined-long size (d .now .pieces) (o .placed v) in
+        let l = long-joined size (d .now .pieces) (o .placed v) in
         let i = in-area in
         omega (arith, sum, l, i)
 

@@ -29,6 +29,7 @@ use Rattle.writer.specs.Opening.{opening}
 use Rattle.writer.specs.Adding.{addFault, adding}
 use Rattle.writer.specs.Closing.{closing}
 use Rattle.writer.proofs.Keeps.{close-clear}
+use Rattle.writer.proofs.Pieces.{laid-ok}
 use Rattle.writer.proofs.Refusals.{can-add, can-close}
 use Rattle.reader.specs.declared.state.Reader.{Reader}
 use Rattle.reader.specs.Phases.{isBusy}
@@ -48,7 +49,7 @@ use Rattle.demands.proofs.DeskCloses.{closes-say}
 use Rattle.demands.proofs.DeskLaws.{after-ok}
 use Rattle.demands.proofs.Ahead.{blocksHeard, Noted, Ahead, Agrees, Noticed, Tells, nothing-more, one-kept, one-removed, one-replaced}
 use Rattle.demands.proofs.StartLine.{opened-ahead}
-use Rattle.demands.proofs.AddLine.{was-laid, Says, finished-ahead, unfinished-ahead}
+use Rattle.demands.proofs.AddLine.{Says, finished-ahead, unfinished-ahead}
 use Rattle.demands.proofs.EndLine.{Found, found, serves, area-heard, area-left, shut-ahead, kept-between, removed-between, replaced-between}
 
 -- ---- a course of reading calls, from its first line
@@ -154,7 +155,7 @@ module _ (system mode : ℕ) (keeps : ℕ → Bool) where
           let is = add-refused-same d kind vs k e in
           (subst (λ (x : Desk). Ahead system mode keeps before gone x st room) (sym is) a, ap (λ (x : Desk). x .closed) is)
       by Finished e =
-          let ok = was-laid d kind vs (ap (λ (z : Laid). length (laidNumbers z)) e) in
+          let ok = laid-ok (d .writer) (d .now .words) kind vs (ap (λ (z : Laid). length (laidNumbers z)) e) in
           let at = can-add (d .writer) (d .now .words) kind vs ok .begun in
           let is : after d (adds kind vs) ≡ addedBy Finished (adding (d .writer) (d .now .words) kind vs) d kind vs =
           ap (λ (z : Laid). addedBy z (adding (d .writer) (d .now .words) kind vs) d kind vs) e in (
@@ -163,7 +164,7 @@ module _ (system mode : ℕ) (keeps : ℕ → Bool) where
             ap (λ (z : Desk). z .closed) is,
           )
       by Unfinished e =
-          let ok = was-laid d kind vs (ap (λ (z : Laid). length (laidNumbers z)) e) in
+          let ok = laid-ok (d .writer) (d .now .words) kind vs (ap (λ (z : Laid). length (laidNumbers z)) e) in
           let at = can-add (d .writer) (d .now .words) kind vs ok .begun in
           let is : after d (adds kind vs) ≡ addedBy Unfinished (adding (d .writer) (d .now .words) kind vs) d kind vs =
           ap (λ (z : Laid). addedBy z (adding (d .writer) (d .now .words) kind vs) d kind vs) e in (

@@ -38,7 +38,7 @@ abbrev pub AreLines : ℕ → List Sent → Type 0
 AreLines system [] = Unit {0}
 AreLines system (s ∷ ss) = IsLine system s × AreLines system ss
 
--- The pieces in which a block was laid, each with one word or more, are joined the block's words, by the block type of the line on which it was finished.
+-- The pieces in which a block was laid have one word or more each, and joined they are the block's words, by the block type of the line on which it was finished.
 abbrev pub NoneEmpty : List Piece → Type 0
 NoneEmpty [] = Unit {0}
 NoneEmpty (p ∷ ps) = (1 ≤ length (p .words)) × NoneEmpty ps
