@@ -23,3 +23,5 @@ pub mod Follow
 pub mod Notices
 pub mod Demand2Holds
 pub mod Demand3Holds
+pub mod PCases
+pub mod DemandSamples
