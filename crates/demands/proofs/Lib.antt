@@ -25,3 +25,6 @@ pub mod Demand2Holds
 pub mod Demand3Holds
 pub mod PCases
 pub mod DemandSamples
+pub mod SmallFrame
+pub mod FrameCourse
+pub mod FrameNeeded
