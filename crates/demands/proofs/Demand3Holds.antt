@@ -45,6 +45,7 @@ use Rattle.demands.proofs.AddLine.{survivors-append}
 use Rattle.demands.proofs.Follow.{follow}
 use Rattle.demands.proofs.Notices.{noticed}
 use Rattle.demands.proofs.Demand2Holds.{start-ahead}
+use Rattle.demands.proofs.FrameNeeded.{frame-needed}
 
 -- ---- a block finished on a line that is not kept has a piece there
 abbrev Lost : (ℕ → Bool) → ℕ → List Complete → Type 0
@@ -149,7 +150,7 @@ agrees-by : (keeps : ℕ → Bool) (i : ℕ) (fs : List Fate) → ((j : ℕ) →
 agrees-by keeps i [] h = tt
 agrees-by keeps i (f ∷ fs) h = (ap keeps (sym (add-zero i)) ∙ h 0, agrees-by keeps (suc i) fs (λ j. ap keeps (suc-add i j ∙ sym (add-suc i j)) ∙ h (suc j)))
 
-module _ (system mode : ℕ) (cs : List Call) (fs : List Fate) (x : Transmission system mode cs fs) (room : List ℕ) (long : length room ≡ capacity)
+module _ (system mode : ℕ) (cs : List Call) (fs : List Fate) (x : Transmission system mode (systemOf system .lines) cs fs) (room : List ℕ) (long : length room ≡ capacity)
     (hs : List Heard) (r : Reads (fresh system mode) room (remain fs (sentFresh system mode cs)) hs) where
   fated : Agrees (keptAt fs) 0 fs
   fated = agrees-by (keptAt fs) 0 fs (λ j. ap (keptAt fs) (zero-add j))
@@ -175,6 +176,7 @@ as-lent d vs =
 pub demand-3 : Demand3
 demand-3 = record {
   handed = handed-out;
+  needed = frame-needed;
   lent = as-lent;
   readable = λ system mode room lines. readable (fresh system mode) room lines refl;
   ends = line-within;

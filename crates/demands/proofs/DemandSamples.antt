@@ -213,7 +213,7 @@ five-long : length fates ≡ length (sentFresh 0 9 five-lines)
 unfolding sent five-lines fates
 five-long = refl
 
-pub transmission : Transmission 0 9 five-lines fates
+pub transmission : Transmission 0 9 525 five-lines fates
 transmission = record { numbers = consecutive; each-line = five-long; runs = no-frame-removed; refusing = refused-is }
 
 -- so this is what every fresh reader hands out

@@ -26,24 +26,12 @@ use Rattle.demands.specs.Sending.{Call, Block, Sent, start, sentBy, sent
 use Rattle.demands.specs.Hearing.{Heard, Reads, handedOut}
 use Rattle.demands.specs.Damage.{Fate, kept, removed, replaced, remain, Refusing, RunsBelow, keptAt, survivors}
 use Rattle.demands.specs.Demand2.{AreLines, givenBack}
-use Rattle.demands.specs.Demand3.{Follows, Consecutive}
+use Rattle.demands.specs.Demand3.{Follows, Consecutive, HandsOut}
 use Rattle.demands.proofs.LineEnds.{readable}
 use Rattle.demands.proofs.DeskLaws.{start-ok}
 use Rattle.demands.proofs.PieceRun.{all-lost}
 use Rattle.demands.proofs.Demand2Holds.{demand-2}
-use Rattle.demands.proofs.Demand3Holds.{demand-3}
 use Rattle.demands.proofs.FrameCourse.{one-set, desk, Values, head-of, tail-of, piece, block-line, fillers, first-of, second-of, Lays, block-sent, Fillers, fillers-sent, none-sent}
-
--- what demand 3 says of blocks handed out by system 0 in 8-bit mode, where each run of removed lines is shorter than `bound`
-abbrev pub HandedBelow : ℕ → Type 0
-HandedBelow bound =
-    (cs : List Call) (fs : List Fate) → Consecutive 525 (sentFresh 0 8 cs) → length fs ≡ length (sentFresh 0 8 cs) → RunsBelow bound fs → Refusing 0 8 fs
-    → (room : List ℕ) → length room ≡ capacity → (hs : List Heard) → Reads (fresh 0 8) room (remain fs (sentFresh 0 8 cs)) hs
-    → handedOut hs ≡ survivors (keptAt fs) (blocksOf (sentFresh 0 8 cs))
-
--- it holds where each run is shorter than one frame
-pub frame-enough : HandedBelow 525
-frame-enough cs fs numbers each-line runs refusing = demand-3 .handed 0 8 cs fs (record { numbers = numbers; each-line = each-line; runs = runs; refusing = refusing })
 
 -- ---- the fates: the first line kept, n lines removed, and the line behind them kept
 abbrev fates : ℕ → List Fate
@@ -236,13 +224,18 @@ module _ (lent : List ℕ) (lent-long : length lent ≡ 1716) (a b : List ℕ) (
   one-not-none : (x : Block) (l : List Block) → l ≡ x ∷ [] → l ≡ [] → ⊥
   one-not-none x l e h = let n : _≡_ {A = ℕ} 1 0 = ap length (sym e ∙ h) in omega arith
 
-  refuted : (room : List ℕ) → length room ≡ capacity → HandedBelow 526 → ⊥
+  refuted : (room : List ℕ) → length room ≡ capacity → HandsOut 0 8 526 → ⊥
   refuted room long claim =
       let c = sends-them in
       let r = readable (fresh 0 8) room (remain (fates 525) (sentFresh 0 8 calls)) refl in
       let says =
-      claim calls (fates 525) (subst (Consecutive 525) (sym (c .is)) (consecutive c)) (each-line c ∙ ap length (sym (c .is))) (runs-below 525) (refusing 525) room long
-      (r .heard) (r .reads) in
+      claim calls (fates 525)
+      (record {
+        numbers = subst (Consecutive 525) (sym (c .is)) (consecutive c);
+        each-line = each-line c ∙ ap length (sym (c .is));
+        runs = runs-below 525;
+        refusing = refusing 525;
+      }) room long (r .heard) (r .reads) in
       one-not-none _ (handedOut (r .heard)) (one-handed room long (r .heard) (r .reads))
       (says ∙ ap (λ (l : List Sent). survivors (keptAt (fates 525)) (blocksOf l)) (c .is) ∙ none-survive (keptAt (fates 525)) first-lost other-lost c)
 
@@ -267,7 +260,7 @@ neither-block room long hs r =
     ∙ ap {B = List Block} (λ (vs : List ℕ). record { kind = 1; values = vs } ∷ []) both-values
 
 -- One line more: it does not hold where a run may be one frame long.
-pub frame-needed : HandedBelow 526 → ⊥
+pub frame-needed : HandsOut 0 8 526 → ⊥
 frame-needed =
     refuted (replicate 1716 0) (length-replicate {A = ℕ} 1716 0) (replicate 1500 1) (replicate 1500 2) (all-values 1 refl) (all-values 2 refl)
     (replicate capacity 0) (length-replicate {A = ℕ} capacity 0)

@@ -22,9 +22,9 @@ pub mod EndLine
 pub mod Follow
 pub mod Notices
 pub mod Demand2Holds
-pub mod Demand3Holds
-pub mod PCases
-pub mod DemandSamples
 pub mod SmallFrame
 pub mod FrameCourse
 pub mod FrameNeeded
+pub mod Demand3Holds
+pub mod PCases
+pub mod DemandSamples

@@ -29,12 +29,13 @@ abbrev pub Consecutive : ℕ → List Sent → Type 0
 Consecutive lines [] = Unit {0}
 Consecutive lines (s ∷ ss) = Follows lines (s .number) ss
 
--- A transmission: lines written by calls on a fresh writer, and their fates. The demand is of variable blocks and one set of settings; more is shown:
--- fixed lines may stand between, and settings may change where the writer lets them, between two blocks.
-pub record Transmission (system mode : ℕ) (cs : List Call) (fs : List Fate) : Type 0 where
+-- A transmission: lines written by calls on a fresh writer, and their fates; each run of removed lines is shorter than `bound`.
+-- The demand is of variable blocks and one set of settings. More is shown: fixed lines may stand between, and settings may change where the
+-- writer lets them, between two blocks.
+pub record Transmission (system mode bound : ℕ) (cs : List Call) (fs : List Fate) : Type 0 where
   pub numbers : Consecutive (systemOf system .lines) (sentFresh system mode cs)
   pub each-line : length fs ≡ length (sentFresh system mode cs)
-  pub runs : RunsBelow (systemOf system .lines) fs
+  pub runs : RunsBelow bound fs
   pub refusing : Refusing system mode fs
 
 -- answers 1 and 2 are not among these
@@ -46,15 +47,22 @@ From3 (is-block b ∷ hs) = From3 hs
 From3 (is-drop n ∷ hs) = From3 hs
 From3 (is-end ∷ hs) = From3 hs
 
+-- Every fresh reader of that system and mode, lent what remains once each and in order, hands out exactly the surviving blocks.
+abbrev pub HandsOut : ℕ → ℕ → ℕ → Type 0
+HandsOut system mode bound =
+    (cs : List Call) (fs : List Fate) → Transmission system mode bound cs fs → (room : List ℕ) → length room ≡ capacity
+    → (hs : List Heard) → Reads (fresh system mode) room (remain fs (sentFresh system mode cs)) hs
+    → handedOut hs ≡ survivors (keptAt fs) (blocksOf (sentFresh system mode cs))
+
 pub record Demand3 : Type 0 where
-  pub handed : (system mode : ℕ) (cs : List Call) (fs : List Fate) → Transmission system mode cs fs
-      → (room : List ℕ) → length room ≡ capacity → (hs : List Heard) → Reads (fresh system mode) room (remain fs (sentFresh system mode cs)) hs
-      → handedOut hs ≡ survivors (keptAt fs) (blocksOf (sentFresh system mode cs))
+  pub handed : (system mode : ℕ) → HandsOut system mode (systemOf system .lines)
+  -- the bound is needed: with runs of one frame it is false, of system 0 in 8-bit mode
+  pub needed : HandsOut 0 8 (systemOf 0 .lines + 1) → ⊥
   -- the values are those laid: of a new block those lent, and of a block lent again unchanged the same
   pub lent : (d : Desk) (vs : List ℕ) → (d .writer .rest ≡ Whole) ⊎ (d .values ≡ vs) → valuesNow d vs ≡ vs
   -- such a course of reading calls exists, each line ends within area + 2 calls, and neither 1 nor 2 is answered
   pub readable : (system mode : ℕ) (room : List ℕ) (lines : List (List ℕ)) → Readable (fresh system mode) room lines
   pub ends : (st : Reader) (line room : List ℕ) → st .place ≡ Shut → (hs : List Heard) (st′ : Reader) (room′ : List ℕ) → Lends line st room hs st′ room′
       → length hs ≤ areaLength (systemOf (st .system) .payload) (settingsOf line .flag) + 2
-  pub served : (system mode : ℕ) (cs : List Call) (fs : List Fate) → Transmission system mode cs fs
+  pub served : (system mode : ℕ) (cs : List Call) (fs : List Fate) → Transmission system mode (systemOf system .lines) cs fs
       → (room : List ℕ) → length room ≡ capacity → (hs : List Heard) → Reads (fresh system mode) room (remain fs (sentFresh system mode cs)) hs → From3 hs
