@@ -10,8 +10,10 @@ use borrow.Author.Tests.{eqb-true, eqb-false, eq-eqb, ne-eqb, le-ltb, ltb-false,
 use Rattle.lists.specs.Tests.{pick}
 use Rattle.lists.proofs.Tests.{true-false, or-false, false-or, pick-false}
 use Rattle.line.specs.declared.settings.Settings.{Settings}
+use Rattle.line.specs.declared.systems.System.{System}
+use Rattle.line.specs.declared.fixed.Fixed.{Fixed}
 use Rattle.line.specs.Systems.{systemOf, isSystem}
-use Rattle.line.specs.Fixed.{isVariable, placesOf, sizeOf, fillsAll, blockRefused}
+use Rattle.line.specs.Fixed.{isVariable, fixedOf, placesOf, sizeOf, fillsAll, blockRefused}
 use Rattle.line.specs.Settings.{settingsFault}
 use Rattle.line.specs.Layout.{areaLength}
 use Rattle.line.proofs.FixedLaws.{places-in-area, size-some}
@@ -21,18 +23,51 @@ use Rattle.course.specs.declared.Last.the-variants.{Unknown, Number}
 use Rattle.course.specs.declared.Place.{Place}
 use Rattle.course.specs.declared.Place.the-variants.{Shut, At}
 use Rattle.course.specs.Course.{isAt, placeOf, blocksEnd, offGrid, misplaced, impossibleAfter}
+use Rattle.course.specs.Looks.{endBy, misplacedBy, impossibleBy}
+
+-- ---- the rules by what was found of the settings
+found-end : (p block flag : ℕ) → endBy (isVariable block) p flag (fixedOf block) ≡ blocksEnd p block flag
+unfolding blocksEnd placesOf sizeOf
+found-end p block flag = refl
+
+pub found-misplaced : (p block flag : ℕ) (place : Place) → misplacedBy (isVariable block) (blocksEnd p block flag) (sizeOf block) place ≡ misplaced p block flag place
+unfolding offGrid
+found-misplaced p block flag Shut = refl
+found-misplaced p block flag (At q) = refl
+
+found-impossible : (system : ℕ) (last : Last) (t : Settings) (place : Place) (busy : Bool)
+    → impossibleBy (systemOf system .lines) last place busy (settingsFault system t) (misplaced (systemOf system .payload) (t .block) (t .flag) place) (isVariable (t .block))
+    ≡ impossibleAfter system last t place busy
+found-impossible system Unknown t place busy = refl
+found-impossible system (Number x) t place busy = refl
+
+-- where blocks end, from the row that was looked up
+pub end-found : (p block flag : ℕ) (row : Fixed) (v : Bool) → row ≡ fixedOf block → v ≡ isVariable block → endBy v p flag row ≡ blocksEnd p block flag
+end-found p block flag row v hr hv =
+    ap₂ (λ (b : Bool) (x : Fixed). endBy b p flag x) hv hr ∙ found-end p block flag
+
+-- what one look at the table finds
+module _ (system : ℕ) (last : Last) (t : Settings) (place : Place) (busy : Bool) (s : System) (row : Fixed) (v : Bool) (end : ℕ) (is : s ≡ systemOf system)
+    (hr : row ≡ fixedOf (t .block)) (hv : v ≡ isVariable (t .block)) (he : end ≡ endBy v (s .payload) (t .flag) row) where
+  pub look-end : end ≡ blocksEnd (systemOf system .payload) (t .block) (t .flag)
+  look-end = he ∙ end-found (s .payload) (t .block) (t .flag) row v hr hv ∙ ap (λ (x : System). blocksEnd (x .payload) (t .block) (t .flag)) is
+
+  look-off : (off : Bool) → off ≡ misplacedBy v end (row .size) place → off ≡ misplaced (systemOf system .payload) (t .block) (t .flag) place
+  unfolding sizeOf
+  look-off off e =
+      e
+      ∙ ap₂ (λ (b : Bool) (n : ℕ). misplacedBy b n (row .size) place) hv look-end
+      ∙ ap (λ (x : Fixed). misplacedBy (isVariable (t .block)) (blocksEnd (systemOf system .payload) (t .block) (t .flag)) (x .size) place) hr
+      ∙ found-misplaced (systemOf system .payload) (t .block) (t .flag) place
+
+  pub look-impossible : (off : Bool) (fault : ℕ) → off ≡ misplacedBy v end (row .size) place → fault ≡ settingsFault system t
+      → impossibleBy (s .lines) last place busy fault off v ≡ impossibleAfter system last t place busy
+  look-impossible off fault ho hf =
+      ap₂ (λ (x : System) (n : ℕ). impossibleBy (x .lines) last place busy n off v) is hf
+      ∙ ap₂ (λ (o b : Bool). impossibleBy (systemOf system .lines) last place busy (settingsFault system t) o b) (look-off off ho) hv
+      ∙ found-impossible system last t place busy
 
 -- ---- on the grid or not
-pub off-none : (block q : ℕ) → sizeOf block ≡ 0 → offGrid block q ≡ true
-unfolding offGrid
-off-none block q e = ap (λ (b : Bool). b || not (eqb (q % sizeOf block) 0)) (eq-eqb (sizeOf block) 0 e)
-
-pub off-some : (block q size : ℕ) → size ≡ sizeOf block → (size ≡ 0 → ⊥) → not (eqb (q % size) 0) ≡ offGrid block q
-unfolding offGrid
-off-some block q size e h =
-    ap (λ (s : ℕ). not (eqb (q % s) 0)) e
-    ∙ sym (ap (λ (b : Bool). b || not (eqb (q % sizeOf block) 0)) (ne-eqb (sizeOf block) 0 (λ z. h (e ∙ z))))
-
 on-grid : (block q : ℕ) → offGrid block q ≡ false → q % sizeOf block ≡ 0
 unfolding offGrid
 on-grid block q e = eqb-true _ _ (not-false _ (or-false (eqb (sizeOf block) 0) _ e .1))

@@ -1,8 +1,12 @@
 // What a writer and a reader both hold of a course of lines: the last number and the place in the line; and the part of the
 // impossible rule that is the same for both.
+use line::fixed::Fixed;
 use line::settings::Settings;
 ghost use mathlib.Core.Path.{_≡_};
-ghost use Rattle.course.specs.Course.{nextNumber, isAt, placeOf, blocksEnd, offGrid, misplaced, impossibleAfter};
+ghost use Rattle.line.specs.Systems.{systemOf};
+ghost use Rattle.line.specs.Fixed.{sizeOf};
+ghost use Rattle.course.specs.Course.{nextNumber, isAt, placeOf, blocksEnd, misplaced, impossibleAfter};
+ghost use Rattle.course.specs.Looks.{endBy, offBy, misplacedBy, impossibleBy};
 
 // The last accepted line number (the writer's: last opened), or none.
 pub enum Last {
@@ -43,40 +47,101 @@ pub fn place_of(place: Place) -> usize
     }
 }
 
+// The words of an area in which blocks stand, by the table's row of the block type.
+fn end_by(variable: bool, payload: usize, flag: u8, row: Fixed) -> usize
+    ensures { λ r. ⌜ r ≡ endBy variable payload flag row ⌝ }
+{
+    if variable {
+        return line::layout::area_length(payload, flag);
+    }
+    line::fixed::places_in(payload, row) as usize * row.size as usize
+}
+
 // The words of an area in which blocks stand.
 pub fn blocks_end(payload: usize, block: u8, flag: u8) -> usize
     ensures { λ r. ⌜ r ≡ blocksEnd payload block flag ⌝ }
 {
-    if line::fixed::is_variable(block) {
-        return line::layout::area_length(payload, flag);
-    }
-    let places = line::fixed::places_of(payload, block) as usize;
-    let size = line::fixed::size_of(block) as usize;
-    places * size
+    let row = line::fixed::fixed_of(block);
+    end_by(line::fixed::is_variable(block), payload, flag, row)
 }
 
-// Not where a place of a fixed line starts or the last ends.
-fn is_off(block: u8, q: u16) -> bool
-    ensures { λ r. ⌜ r ≡ offGrid block q ⌝ }
+// Not where a place of that size starts or the last ends.
+fn is_off(size: u16, q: u16) -> bool
+    ensures { λ r. ⌜ r ≡ offBy size q ⌝ }
 {
-    let size = line::fixed::size_of(block);
     if size == 0 {
         return true;
     }
     q % size != 0
 }
 
-// The place is beyond the area, or in a fixed line not where a place starts or the last ends.
-pub fn is_misplaced(payload: usize, block: u8, flag: u8, place: Place) -> bool
-    ensures { λ r. ⌜ r ≡ misplaced payload block flag place ⌝ }
+// The place is beyond the end, or in a fixed line not where a place starts or the last ends.
+fn misplaced_by(variable: bool, end: usize, size: u16, place: Place) -> bool
+    ensures { λ r. ⌜ r ≡ misplacedBy variable end size place ⌝ }
 {
     match place {
         Place::Shut => false,
         Place::At(q) => {
-            let beyond = blocks_end(payload, block, flag) < q as usize;
-            let off = is_off(block, q);
-            beyond | (!line::fixed::is_variable(block) & off)
+            let off = is_off(size, q);
+            (end < q as usize) | (!variable & off)
         }
+    }
+}
+
+// The place is beyond the area, or in a fixed line not where a place starts or the last ends.
+pub fn is_misplaced(payload: usize, block: u8, flag: u8, place: Place) -> bool
+    ensures { λ r. ⌜ r ≡ misplaced payload block flag place ⌝ }
+{
+    let end = blocks_end(payload, block, flag);
+    let size = line::fixed::size_of(block);
+    misplaced_by(line::fixed::is_variable(block), end, size, place)
+}
+
+// The part of the impossible rule that a writer and a reader share, by what the settings and the place were found to be.
+fn impossible_by(
+    lines: u16,
+    last: Last,
+    place: Place,
+    busy: bool,
+    fault: u8,
+    off: bool,
+    variable: bool,
+) -> bool
+    ensures { λ r. ⌜ r ≡ impossibleBy lines last place busy fault off variable ⌝ }
+{
+    match last {
+        Last::Unknown => busy | is_at(place),
+        Last::Number(x) => {
+            let number = !((1 <= x) & (x <= lines));
+            number | ((fault != 0) | (off | (busy & !variable)))
+        }
+    }
+}
+
+// What a call asks of the table of fixed blocks: it is looked up once a call, because a call of a fixed line moves few words.
+pub struct Looked {
+    pub impossible: bool,
+    pub end: usize,
+    pub size: u16,
+}
+
+// Whether the course is impossible, where blocks end in its line, and the size of a fixed block; busy: an unfinished block, or an
+// open phase.
+pub fn look(system: u8, last: Last, t: Settings, place: Place, busy: bool) -> Looked
+    ensures { λ r. ⌜ (r .impossible ≡ impossibleAfter system last t place busy)
+        × (r .end ≡ blocksEnd (systemOf system .payload) (t .block) (t .flag))
+        × (r .size ≡ sizeOf (t .block)) ⌝ }
+{
+    let s = line::systems::system_of(system);
+    let row = line::fixed::fixed_of(t.block);
+    let variable = line::fixed::is_variable(t.block);
+    let end = end_by(variable, s.payload, t.flag, row);
+    let off = misplaced_by(variable, end, row.size, place);
+    let fault = line::settings::settings_fault(system, t);
+    Looked {
+        impossible: impossible_by(s.lines, last, place, busy, fault, off, variable),
+        end: end,
+        size: row.size,
     }
 }
 
@@ -84,14 +149,6 @@ pub fn is_misplaced(payload: usize, block: u8, flag: u8, place: Place) -> bool
 pub fn is_impossible(system: u8, last: Last, t: Settings, place: Place, busy: bool) -> bool
     ensures { λ r. ⌜ r ≡ impossibleAfter system last t place busy ⌝ }
 {
-    match last {
-        Last::Unknown => busy | is_at(place),
-        Last::Number(x) => {
-            let s = line::systems::system_of(system);
-            let number = !((1 <= x) & (x <= s.lines));
-            let fault = line::settings::settings_fault(system, t);
-            let off = is_misplaced(s.payload, t.block, t.flag, place);
-            number | ((fault != 0) | (off | (busy & !line::fixed::is_variable(t.block))))
-        }
-    }
+    let x = look(system, last, t, place, busy);
+    x.impossible
 }

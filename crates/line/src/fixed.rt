@@ -1,5 +1,7 @@
 // The table of fixed blocks. It is a match and no constant array, because a constant array is built anew at each use.
 ghost use mathlib.Core.Path.{_≡_};
+ghost use lib.Dec.{eqb};
+ghost use Rattle.lists.specs.Tests.{pick};
 ghost use Rattle.line.specs.Fixed.{fixed, table, find, fixedOf, placesOf, sizeOf, isVariable, blockRefused};
 
 // A kind of fixed blocks: size with the type word, and places at each rate.
@@ -76,12 +78,18 @@ pub fn size_of(block: u8) -> u16
     x.size
 }
 
+// The places of a kind where the payload is P words.
+pub fn places_in(payload: usize, x: Fixed) -> u16
+    ensures { λ r. ⌜ r ≡ pick (eqb payload 1440) (x .at270) (x .at360) ⌝ }
+{
+    if payload == 1440 { x.at270 } else { x.at360 }
+}
+
 // The places of a block type where the payload is P words.
 pub fn places_of(payload: usize, block: u8) -> u16
     ensures { λ r. ⌜ r ≡ placesOf payload block ⌝ }
 {
-    let x = fixed_of(block);
-    if payload == 1440 { x.at270 } else { x.at360 }
+    places_in(payload, fixed_of(block))
 }
 
 // Block type C1h is the variable one.

@@ -1,0 +1,46 @@
+-- `course::end_by` meets its contract. Assumes nothing.
+use mathlib.Core.Path.{sym, ap, _∙_}
+use Prim.Native.Nat.{ℕ, _*_, _^_, _<_}
+use native.Mathlib.Omega.{arith}
+use Rattle.lists.proofs.Tests.{pick-true, pick-false}
+use Rattle.line.proofs.FixedLaws.{product-lt}
+use borrow.Author.Needs.{needs}
+use Rattle.course.proofs.end_by.Statement.{statement}
+use Rattle.course.proofs.end_by.Tie as tie
+
+area-length-requires : tie.Need-area-length-requires
+area-length-requires c κs = search needs
+
+returns : tie.Need-returns
+returns c = c .area-length .ensures .0 ∙ sym (pick-true _ _ (c .before .if1 .taken))
+
+places-in-requires : tie.Need-places-in-requires
+places-in-requires c κs = search needs
+
+cast-result : tie.Need-cast-result
+cast-result c = search needs
+
+cast-result-2 : tie.Need-cast-result-2
+cast-result-2 c = search needs
+
+mul-result : tie.Need-mul-result
+mul-result c =
+    let places : c .before .places-in .result < 2 ^ 16 = omega arith in
+    let size : c .before .before .before .args .row .size < 2 ^ 16 = omega arith in
+    record { fits = omega (arith, product-lt places size) }
+
+returns-2 : tie.Need-returns-2
+returns-2 c =
+    ap (λ (n : ℕ). n * c .before .before .before .args .row .size) (c .before .places-in .ensures) ∙ sym (pick-false _ _ (c .before .before .if1 .left))
+
+pub end-by-spec : {M : Type 1} → statement M
+end-by-spec =
+    tie.close
+    (tie.spec
+    area-length-requires
+    returns
+    places-in-requires
+    cast-result
+    cast-result-2
+    mul-result
+    returns-2)
