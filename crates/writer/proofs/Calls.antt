@@ -1,6 +1,7 @@
 -- What the calls leave is what the definitions say.
 -- Assumes nothing.
-use mathlib.Core.Path.{_≡_, sym, ap, ap₂, _∙_}
+use mathlib.Core.Path.{_≡_, refl, sym, ap, ap₂, _∙_}
+use mathlib.Core.Bool.{false}
 use mathlib.Core.List.{List, [], _∷_, _++_, append-nil}
 use Prim.Native.Nat.{ℕ, _+_, _-_, _≤_, _<_, min}
 use native.Mathlib.Numerals.{add-one}
@@ -16,6 +17,7 @@ use Rattle.words.specs.Crc.{crcOf, crcLow, crcHigh, crcWords}
 use Rattle.line.specs.declared.systems.System.{System}
 use Rattle.course.specs.declared.Place.the-variants.{Shut, At}
 use Rattle.line.specs.Systems.{systemOf}
+use Rattle.line.specs.Fixed.{isVariable}
 use Rattle.line.specs.Layout.{payloadAt, areaLength, areaOf, endWords}
 use Rattle.course.specs.Course.{placeOf}
 use Rattle.writer.specs.declared.state.Rest.{Rest}
@@ -26,13 +28,14 @@ use Rattle.writer.specs.declared.state.Laid.the-variants.{Not, Finished,
 use Rattle.writer.specs.declared.state.Answer.the-variants.{Refused, Done}
 use Rattle.writer.specs.Answers.{left, Added, added}
 use Rattle.writer.specs.State.{laidOf, endIn, moved}
-use Rattle.writer.specs.Block.{wordsIn}
+use Rattle.writer.specs.Block.{fixedWords, wordsIn}
 use Rattle.writer.specs.Adding.{addFault, todo, room, adding}
 use Rattle.writer.specs.Closing.{closeFault, sealed, closing}
-use Rattle.writer.proofs.FillLaws.{mid-paste}
+use Rattle.writer.proofs.FillLaws.{mid-paste, part-whole}
 use Rattle.writer.proofs.BlockLaws.{words-long}
 use Rattle.line.proofs.SystemLaws.{payload-most, length-most}
-use Rattle.writer.proofs.Refusals.{count, count-between, CanAdd, can-add}
+use Rattle.writer.proofs.Refusals.{count, count-fixed, count-between, CanAdd, can-add}
+use Rattle.writer.proofs.Stays.{words-fixed, fixed-long, fixed-whole, fixed-room}
 
 -- ---- closing
 -- the last two words stored
@@ -157,3 +160,30 @@ module _ {w : Writer} {line : List ℕ} {kind : ℕ} {vs : List ℕ} {p j rest k
       ∙ ap (λ (x : ℕ). g q i (length ws) x a) some
       ∙ ap (λ (x : ℕ). g q i (length ws) (room w ws) x) (f .index ∙ ap (λ (x : ℕ). payloadAt (systemOf (w .system)) + x) (f .place))
       ∙ sym (pick-true _ _ (eq-eqb _ _ (f .clear)))
+
+-- ---- adding in a fixed line: all words of the block are laid now
+pub place-found : (w : Writer) (line : List ℕ) (kind : ℕ) (vs : List ℕ) → addFault w (length line) kind vs ≡ 0 → isVariable (w .settings .block) ≡ false
+    → (p a : ℕ) → p ≡ placeOf (w .place) → a ≡ payloadAt (systemOf (w .system)) + p → Found w line kind vs p 0 (length vs + 1) (length vs + 1) a
+place-found w line kind vs clear v p a hp ha =
+    let few = fixed-room w line kind vs clear v in
+    record {
+      clear = clear;
+      place = hp;
+      laid = sym (ap laidOf (fixed-whole w line kind vs clear v));
+      left = omega (arith, count-fixed (w .settings .block) (length vs) v);
+      now = omega (arith, few, hp);
+      index = ha;
+    }
+
+pub place-done : {w : Writer} {line : List ℕ} {kind : ℕ} {vs : List ℕ} {p a : ℕ} → Found w line kind vs p 0 (length vs + 1) (length vs + 1) a
+    → isVariable (w .settings .block) ≡ false → (ys : List ℕ) → ys ≡ fixedWords (w .mode) kind vs
+    → added Finished (moved w (At (p + (length vs + 1))) Whole) (putMid a (a + (length vs + 1) - a) line ys) ≡ adding w line kind vs
+place-done {w} {line} {kind} {vs} {p} {a} f v ys e =
+    let all = words-fixed (w .settings .block) (w .mode) kind vs v in
+    let many = part-whole line a (length vs + 1) (sizes f .within) in
+    let long = fixed-long (w .mode) kind vs in
+    let k = length (take (a + (length vs + 1) - a) (drop a line)) in
+    let whole = eq-eqb (length vs + 1) (length vs + 1) refl in
+    add-done f ys Whole Finished
+    (e ∙ sym (take-all k (fixedWords (w .mode) kind vs) (omega (arith, many, long))) ∙ ap (take k) (sym all))
+    (sym (pick-true Whole (Part kind (length vs) (0 + (length vs + 1))) whole)) (sym (pick-true Finished Unfinished whole))

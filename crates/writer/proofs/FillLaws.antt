@@ -164,3 +164,8 @@ mid-paste d s ys a k h e =
 
 pub part-most : (d : List ℕ) (a k : ℕ) → length (take (a + k - a) (drop a d)) ≤ k
 part-most d a k = rw (length-take (a + k - a) (drop a d)) (omega arith)
+
+pub part-whole : (d : List ℕ) (a k : ℕ) → a + k ≤ length d → length (take (a + k - a) (drop a d)) ≡ k
+part-whole d a k h =
+    let m : a + k - a ≡ k = omega arith in
+    ap (λ (i : ℕ). length (take i (drop a d))) m ∙ length-take-le k (drop a d) (rw (length-drop a d) (omega arith))

@@ -138,7 +138,7 @@ block-long : (mode kind : ℕ) (vs : List ℕ) → length (blockWords mode kind 
 unfolding blockWords countWords
 block-long mode kind vs = let a = length-append (map (wordOf mode) vs) (endCode ∷ []) in let b = length-map vs (wordOf mode) in omega arith
 
-fixed-long : (mode kind : ℕ) (vs : List ℕ) → length (fixedWords mode kind vs) ≡ length vs + 1
+pub fixed-long : (mode kind : ℕ) (vs : List ℕ) → length (fixedWords mode kind vs) ≡ length vs + 1
 unfolding fixedWords
 fixed-long mode kind vs = let b = length-map vs (wordOf mode) in omega arith
 
@@ -235,6 +235,9 @@ module _ (w : Writer) (line : List ℕ) (kind : ℕ) (vs : List ℕ) (ok : addFa
 
   fixed-next : isVariable (w .settings .block) ≡ false → placeOf (w .place) + sizeOf block ≤ endIn w
   fixed-next v = grid-room (systemOf (w .system) .payload) block (w .settings .flag) (placeOf (w .place)) v at-grid free
+
+  pub fixed-room : isVariable (w .settings .block) ≡ false → placeOf (w .place) + (length vs + 1) ≤ endIn w
+  fixed-room v = let a = fixed-next v in let b = fixed-by (w .place) block kind (length vs) (adds .begun) v (adds .shape) in omega arith
 
   pub fixed-fits : isVariable (w .settings .block) ≡ false → room w (todo w kind vs) ≡ length (todo w kind vs)
   fixed-fits v = let a = fixed-next v in let b = fixed-size v in omega arith

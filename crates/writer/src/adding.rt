@@ -8,11 +8,13 @@ use course::Place;
 use line::check;
 use line::systems;
 ghost use mathlib.Core.Path.{_≡_};
+ghost use mathlib.Core.Bool.{false};
 ghost use Prim.Native.Nat.{_+_, _≤_, _<_};
 ghost use lib.Dec.{eqb, ltb};
 ghost use lib.ListN.{length};
 ghost use Rattle.lists.specs.Tests.{pick};
 ghost use Rattle.lists.specs.Lists.{each};
+ghost use Rattle.line.specs.Fixed.{isVariable, sizeOf};
 ghost use Rattle.writer.specs.Answers.{added};
 ghost use Rattle.writer.specs.Adding.{valued, illShaped, isFull, isOther, addFault, adding};
 
@@ -44,15 +46,15 @@ fn all_below(limit: u16, s: &[u16]) -> bool
 }
 
 // n above 16,384 or type above FFh; fixed line open: n not size-1 or type 00h.
-fn is_ill_shaped(place: Place, block: u8, kind: u16, n: usize) -> bool
+fn is_ill_shaped(place: Place, block: u8, size: u16, kind: u16, n: usize) -> bool
+    requires { ⌜ size ≡ sizeOf block ⌝ }
     ensures { λ r. ⌜ r ≡ illShaped place block kind n ⌝ }
 {
     if 16384 < n {
         return true;
     }
-    let size = line::fixed::size_of(block) as usize;
     let fixed = course::is_at(place) & !line::fixed::is_variable(block);
-    (255 < kind) | (fixed & ((n + 1 != size) | (kind == 0)))
+    (255 < kind) | (fixed & ((n + 1 != size as usize) | (kind == 0)))
 }
 
 // No place (variable: word) left in the open line.
@@ -83,14 +85,21 @@ fn is_other(rest: Rest, kind: u16, n: usize) -> bool
 fn add_fault(w: Writer, long: usize, kind: u16, values: &[u16]) -> u8
     ensures { λ r. ⌜ r ≡ addFault w long kind (now (values .entry)) ⌝ }
 {
+    let last = w.last;
+    let settings = w.settings;
     let place = w.place;
     let rest = w.rest;
     let n = values.len();
+    let x = course::look(w.system, last, settings, place, state::is_part(rest));
     let r20 = lists::or_else(!course::is_at(place) | is_other(rest, kind, n), 20, 0);
-    let r19 = lists::or_else(is_full(state::end_in(w), place), 19, r20);
-    let r18 = lists::or_else(is_ill_shaped(place, w.settings.block, kind, n), 18, r19);
+    let r19 = lists::or_else(is_full(x.end, place), 19, r20);
+    let r18 = lists::or_else(
+        is_ill_shaped(place, settings.block, x.size, kind, n),
+        18,
+        r19,
+    );
     let r17 = lists::or_else(!is_valued(w.mode, values), 17, r18);
-    let r2 = lists::or_else(state::is_impossible(w), 2, r17);
+    let r2 = lists::or_else(x.impossible | state::is_misshapen(rest), 2, r17);
     lists::or_else(!check::is_fit(w.system, w.mode, long), 1, r2)
 }
 
@@ -120,17 +129,39 @@ fn told(left: usize, k: usize) -> Laid
     }
 }
 
-// Adds a block, or goes on with the unfinished one.
-pub fn add_block(w: Writer, kind: u16, values: &[u16], line: &mut [u16]) -> Addition
+// The block in a place of a fixed line: all of it fits, because places stand one after another.
+fn lay_place(w: Writer, kind: u16, values: &[u16], line: &mut [u16]) -> Addition
+    requires { ⌜ (addFault w (length (now line)) kind (now values) ≡ 0) × (isVariable (w .settings .block) ≡ false) ⌝ }
     ensures { λ r. ⌜ added (r .answer) (r .state) (now (line .exit)) ≡ adding w (now (line .entry)) kind (now (values .entry)) ⌝ }
 {
-    let fault = add_fault(w, line.len(), kind, values);
-    if fault != 0 {
-        return Addition {
-            answer: Laid::Not(fault),
-            state: w,
-        };
+    let s = systems::system_of(w.system);
+    let settings = w.settings;
+    let last = w.last;
+    let at = w.place;
+    let place = course::place_of(at);
+    let k = values.len() + 1;
+    let a = s.length - s.payload + place;
+    let e = a + k;
+    block::lay_fixed(w.mode, kind, values, &mut line[a..e]);
+    let state = Writer {
+        system: w.system,
+        mode: w.mode,
+        last: last,
+        settings: settings,
+        place: Place::At((place + k) as u16),
+        rest: Rest::Whole,
+    };
+    Addition {
+        answer: Laid::Finished,
+        state: state,
     }
+}
+
+// As much of the block as fits.
+fn lay_part(w: Writer, kind: u16, values: &[u16], line: &mut [u16]) -> Addition
+    requires { ⌜ addFault w (length (now line)) kind (now values) ≡ 0 ⌝ }
+    ensures { λ r. ⌜ added (r .answer) (r .state) (now (line .exit)) ≡ adding w (now (line .entry)) kind (now (values .entry)) ⌝ }
+{
     let s = systems::system_of(w.system);
     let settings = w.settings;
     let last = w.last;
@@ -156,4 +187,21 @@ pub fn add_block(w: Writer, kind: u16, values: &[u16], line: &mut [u16]) -> Addi
         answer: told(left, k),
         state: state,
     }
+}
+
+// Adds a block, or goes on with the unfinished one.
+pub fn add_block(w: Writer, kind: u16, values: &[u16], line: &mut [u16]) -> Addition
+    ensures { λ r. ⌜ added (r .answer) (r .state) (now (line .exit)) ≡ adding w (now (line .entry)) kind (now (values .entry)) ⌝ }
+{
+    let fault = add_fault(w, line.len(), kind, values);
+    if fault != 0 {
+        return Addition {
+            answer: Laid::Not(fault),
+            state: w,
+        };
+    }
+    if line::fixed::is_variable(w.settings.block) {
+        return lay_part(w, kind, values, line);
+    }
+    lay_place(w, kind, values, line)
 }

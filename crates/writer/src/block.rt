@@ -7,7 +7,7 @@ ghost use Prim.Native.Nat.{_+_, _/_, _%_, _≤_};
 ghost use lib.ListN.{length, take, drop};
 ghost use Rattle.words.specs.Forms.{byteWord};
 ghost use Rattle.words.specs.Modes.{wordOf};
-ghost use Rattle.writer.specs.Block.{wordsIn};
+ghost use Rattle.writer.specs.Block.{fixedWords, wordsIn};
 ghost use Rattle.writer.specs.Cuts.{headIn, tailIn};
 
 // The length of the head.
@@ -96,4 +96,14 @@ pub(crate) fn lay_words(block: u8, mode: u8, kind: u16, values: &[u16], j: usize
         &mut out[..a],
     );
     lay_rest(block, mode, values, lists::less(j, h), &mut out[a..]);
+}
+
+// A place of a fixed line: the type word and the values.
+pub(crate) fn lay_fixed(mode: u8, kind: u16, values: &[u16], out: &mut [u16])
+    requires { ⌜ length (now out) ≡ length (now values) + 1 ⌝ }
+    ensures { λ _. ⌜ now (out .exit) ≡ fixedWords mode kind (now (values .entry)) ⌝ }
+{
+    let word = words::forms::byte_word(kind);
+    fill::copy_in(&[word], &mut out[..1]);
+    fill::put_values(mode, values, &mut out[1..]);
 }

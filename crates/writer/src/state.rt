@@ -78,7 +78,7 @@ pub fn laid_of(rest: Rest) -> usize
 }
 
 // n above 16,384, or words laid not 1 to n+6.
-fn is_misshapen(rest: Rest) -> bool
+pub(crate) fn is_misshapen(rest: Rest) -> bool
     ensures { λ r. ⌜ r ≡ misshapen rest ⌝ }
 {
     match rest {

@@ -18,12 +18,6 @@ returns c =
     let fixed = isAt (a .place) && not (isVariable (a .block)) in
     sym (ap (λ (b : Bool). b || (ltb 255 (a .kind) || (fixed && (not (eqb (a .n + 1) (sizeOf (a .block))) || eqb (a .kind) 0)))) (lt-ltb 16384 (a .n) (c .if1 .taken)))
 
-size-of-requires : tie.Need-size-of-requires
-size-of-requires c κs = search needs
-
-cast-size : tie.Need-cast-size
-cast-size c = search needs
-
 is-at-requires : tie.Need-is-at-requires
 is-at-requires c κs = search needs
 
@@ -36,19 +30,18 @@ add-result c = search needs
 returns-2 : tie.Need-returns-2
 unfolding illShaped
 returns-2 c =
-    let a = c .before .before .before .before .args in
+    let s = c .before .before .before in
+    let a = s .args in
     let fixed = isAt (a .place) && not (isVariable (a .block)) in
     ap₂ (λ (f : Bool) (s : ℕ). ltb 255 (a .kind) || (f && (not (eqb (a .n + 1) s) || eqb (a .kind) 0)))
-    (ap₂ (λ (x y : Bool). x && not y) (c .before .is-at .ensures) (c .is-variable .ensures)) (c .before .before .size-of .ensures)
-    ∙ sym (ap (λ (b : Bool). b || (ltb 255 (a .kind) || (fixed && (not (eqb (a .n + 1) (sizeOf (a .block))) || eqb (a .kind) 0)))) (le-ltb 16384 (a .n) (c .before .before .before .if1 .left)))
+    (ap₂ (λ (x y : Bool). x && not y) (c .before .is-at .ensures) (c .is-variable .ensures)) (s .pre)
+    ∙ sym (ap (λ (b : Bool). b || (ltb 255 (a .kind) || (fixed && (not (eqb (a .n + 1) (sizeOf (a .block))) || eqb (a .kind) 0)))) (le-ltb 16384 (a .n) (c .before .before .if1 .left)))
 
 pub is-ill-shaped-spec : {M : Type 1} → statement M
 is-ill-shaped-spec =
     tie.close
     (tie.spec
     returns
-    size-of-requires
-    cast-size
     is-at-requires
     is-variable-requires
     add-result
