@@ -8,6 +8,7 @@
 #include <string.h>
 
 enum { LENGTH = 1716, PAYLOAD = 1440, START = LENGTH - PAYLOAD, LINES = 525, BATCH = 8, ROOM = 16384, MOST = 10000 };
+enum { SYSTEM = 0 }; // the one that the twin knows; LENGTH, PAYLOAD and LINES are its own
 enum { SEPARATOR = 0x309, END_CODE = 0x30A, FILLER = 0x200, VARIABLE = 0xC1 };
 
 typedef struct {
@@ -59,6 +60,9 @@ static void crc_words(const uint16_t *w, size_t n, uint16_t *out) {
     out[0] = data_word(c);
     out[1] = data_word(c >> 9);
 }
+
+// Unknown system or mode, or line not L long.
+static int unfit(unsigned system, int mode, size_t length) { return system != SYSTEM || (mode != 8 && mode != 9) || length != LENGTH; }
 
 // ---- settings
 // The fixed blocks by B5-B0 of the block type: size with the type word, and places at 270.
@@ -142,13 +146,13 @@ static void header(unsigned number, const Settings *s, uint16_t *h) {
 }
 
 typedef struct {
-    unsigned number, kind, n, laid, place; // an unfinished block has laid > 0
+    unsigned system, number, kind, n, laid, place; // an unfinished block has laid > 0
     int mode;
     Settings settings;
 } Writer;
 
 static int writer_fault(const Writer *w, size_t length) {
-    if ((w->mode != 8 && w->mode != 9) || length != LENGTH)
+    if (unfit(w->system, w->mode, length))
         return 1;
     if (!possible(w->number, &w->settings, w->place, w->laid != 0) || (w->laid && (w->n > ROOM || w->laid > w->n + 6)))
         return 2;
@@ -265,7 +269,9 @@ static int legal_area(int mode, int variable, const uint16_t *w, size_t n) {
 }
 
 // 01's number, or 0 with the number and settings.
-static int check(int mode, const uint16_t *line, unsigned *number, Settings *s) {
+static int check(unsigned system, int mode, const uint16_t *line, size_t length, unsigned *number, Settings *s) {
+    if (unfit(system, mode, length))
+        return 1;
     uint16_t t[4];
     int f = line[3] >> 8 & 1, v = line[3] >> 7 & 1;
     timing(f, v, 1, t);
@@ -324,7 +330,7 @@ enum { IDLE, TYPE, COUNT, DATA };
 enum { BEGUN = 3, ENDED = 4 }; // events beside 1, a block, and 2, a drop
 
 typedef struct {
-    unsigned last, place, phase, kind, bytes, count, got;
+    unsigned system, last, place, phase, kind, bytes, count, got;
     int mode;
     Settings settings;
 } Reader;
@@ -428,15 +434,15 @@ static void begin(Reader *r, unsigned number, const Settings *s) {
 
 // A reading call: below 0 a refusal, else an event.
 static int read_call(Reader *r, const uint16_t *line, size_t length, uint16_t *room, size_t words) {
-    if ((r->mode != 8 && r->mode != 9) || length != LENGTH || words != ROOM)
+    if (unfit(r->system, r->mode, length) || words != ROOM)
         return -1;
-    int wrong_count = r->phase == DATA && (r->count > ROOM || r->got > ROOM || (r->count && r->got > r->count));
+    int wrong_count = r->phase == COUNT ? r->bytes > 3 : r->phase == DATA && (r->count > ROOM || r->got > ROOM || (r->count && r->got > r->count));
     if (wrong_count || !possible(r->last, &r->settings, r->place, r->phase != IDLE))
         return -2;
     if (r->place == NONE) {
         unsigned number;
         Settings s;
-        int fault = check(r->mode, line, &number, &s);
+        int fault = check(r->system, r->mode, line, length, &number, &s);
         if (fault) {
             r->phase = IDLE;
             r->last = 0;
@@ -484,7 +490,7 @@ static uint32_t check_round(int mode, uint32_t digest) {
     for (int k = 0; k < BATCH; k++) {
         unsigned number = 0;
         Settings s;
-        digest = digest * 31 + (uint32_t)check(mode, lines[k], &number, &s) + number;
+        digest = digest * 31 + (uint32_t)check(SYSTEM, mode, lines[k], LENGTH, &number, &s) + number;
     }
     return digest;
 }
