@@ -1,13 +1,13 @@
 -- The table of fixed blocks: what is not listed, which kinds fill all P words, and that the places of a kind fit into the payload.
 -- Assumes nothing.
-use mathlib.Core.Path.{_≡_, refl, sym, ap, _∙_, subst}
+use mathlib.Core.Path.{_≡_, refl, sym, ap, ap₂, _∙_, subst}
 use mathlib.Core.Bool.{Bool, true, false, _&&_, _||_, not}
 use mathlib.Core.List.{List, [], _∷_}
-use Prim.Native.Nat.{ℕ, zero, suc, _-_, _*_, _%_, _^_, _<_, _≤_}
+use Prim.Native.Nat.{ℕ, zero, suc, _+_, _-_, _*_, _%_, _/_, _^_, _<_, _≤_}
 use native.Mathlib.Omega.{arith}
 use native.Mathlib.Nat.{mod-lt, mod-mod, lt-of-le-of-lt, le-of-lt, mul-le-mul-left, mul-lt-mul-of-pos-right}
 use lib.Dec.{T, eqb, leb, lit<}
-use borrow.Author.Tests.{ne-eqb, ltb-true, leb-true}
+use borrow.Author.Tests.{eqb-true, ne-eqb, ltb-true, leb-true}
 use Rattle.lists.specs.Tests.{pick}
 use Rattle.lists.proofs.Tests.{all, below, agree, agree→eq, pick-false}
 use Rattle.line.specs.declared.fixed.Fixed.{Fixed}
@@ -29,6 +29,33 @@ find-missed (r ∷ rs) A k m =
 
 pub unlisted : (k : ℕ) → Missed table (Unit {0}) k → find k table ≡ fixed 0 0 0
 unlisted k m = find-missed table (Unit {0}) k m .1
+
+-- ---- a row as one number
+abbrev pub packed : Fixed → ℕ
+packed x = x .size + x .at270 * 65536 + x .at360 * 4294967296
+
+abbrev pub unpacked : ℕ → Fixed
+unpacked n = fixed (n % 65536) (n / 65536 % 65536) (n / 4294967296 % 65536)
+
+abbrev same : Fixed → Fixed → Bool
+same x y = eqb (x .size) (y .size) && (eqb (x .at270) (y .at270) && eqb (x .at360) (y .at360))
+
+same-eq : (x y : Fixed) → T (same x y) → x ≡ y
+same-eq x y t = go _ _ _ refl refl refl t
+  where
+    go : (a b c : Bool) → eqb (x .size) (y .size) ≡ a → eqb (x .at270) (y .at270) ≡ b → eqb (x .at360) (y .at360) ≡ c → T (a && (b && c)) → x ≡ y
+    go false b c e f g t = absurd t
+    go true false c e f g t = absurd t
+    go true true false e f g t = absurd t
+    go true true true e f g t =
+        ap (λ (s : ℕ). fixed s (x .at270) (x .at360)) (eqb-true _ _ e)
+        ∙ ap₂ (λ (a b : ℕ). fixed (y .size) a b) (eqb-true _ _ f) (eqb-true _ _ g)
+
+-- each row is found again in its number
+pub unpacks : (block : ℕ) → unpacked (packed (find (block % 64) table)) ≡ find (block % 64) table
+unfolding table pick
+unpacks block =
+    same-eq _ _ (below 64 (λ k. same (unpacked (packed (find k table))) (find k table)) tt (block % 64) (mod-lt block (lit< tt)))
 
 -- two numbers of 16 bits have a product of 32
 pub product-lt : {a b : ℕ} → a < 2 ^ 16 → b < 2 ^ 16 → a * b < 2 ^ 32

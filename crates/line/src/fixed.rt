@@ -1,8 +1,10 @@
-// The table of fixed blocks. It is a match and no constant array, because a constant array is built anew at each use.
+// The table of fixed blocks. It is a match and no constant array, because a constant array is built anew at each use; and a row is one
+// number, because a match of numbers is compiled to a load, and a match of structs to a jump.
 ghost use mathlib.Core.Path.{_≡_};
+ghost use Prim.Native.Nat.{_+_, _*_};
 ghost use lib.Dec.{eqb};
 ghost use Rattle.lists.specs.Tests.{pick};
-ghost use Rattle.line.specs.Fixed.{fixed, table, find, fixedOf, placesOf, sizeOf, isVariable, blockRefused};
+ghost use Rattle.line.specs.Fixed.{table, find, fixedOf, placesOf, sizeOf, isVariable, blockRefused};
 
 // A kind of fixed blocks: size with the type word, and places at each rate.
 pub struct Fixed {
@@ -11,19 +13,16 @@ pub struct Fixed {
     pub at360: u16,
 }
 
-fn kind(size: u16, at270: u16, at360: u16) -> Fixed
-    ensures { λ r. ⌜ r ≡ fixed size at270 at360 ⌝ }
+// A row as one number: the size in the lowest 16 bits, then the places at 270 and at 360.
+fn kind(size: u16, at270: u16, at360: u16) -> u64
+    ensures { λ r. ⌜ r ≡ size + at270 * 65536 + at360 * 4294967296 ⌝ }
 {
-    Fixed {
-        size: size,
-        at270: at270,
-        at360: at360,
-    }
+    size as u64 + at270 as u64 * 65536 + at360 as u64 * 4294967296
 }
 
-// The row of the table; all 0 where there is none.
-fn listed(bits: u8) -> Fixed
-    ensures { λ r. ⌜ r ≡ find bits table ⌝ }
+// The row of the table; 0 where there is none.
+fn listed(bits: u8) -> u64
+    ensures { λ r. ⌜ r ≡ find bits table .size + find bits table .at270 * 65536 + find bits table .at360 * 4294967296 ⌝ }
 {
     match bits {
         0x01 => kind(1438, 1, 1),
@@ -67,7 +66,15 @@ fn listed(bits: u8) -> Fixed
 pub fn fixed_of(block: u8) -> Fixed
     ensures { λ r. ⌜ r ≡ fixedOf block ⌝ }
 {
-    listed(block % 64)
+    let x = listed(block % 64);
+    let size = (x % 65536) as u16;
+    let at270 = (x / 65536 % 65536) as u16;
+    let at360 = (x / 4294967296 % 65536) as u16;
+    Fixed {
+        size: size,
+        at270: at270,
+        at360: at360,
+    }
 }
 
 // The size of a block, its type word included.
