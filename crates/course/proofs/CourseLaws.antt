@@ -3,7 +3,7 @@
 use mathlib.Core.Path.{_≡_, refl, sym, ap, ap₂, _∙_, subst}
 use mathlib.Core.Bool.{Bool, true, false, _&&_, _||_, not}
 use Prim.Native.Nat.{ℕ, zero, suc, _+_, _-_, _*_, _/_, _%_, _≤_, _<_}
-use native.Mathlib.Nat.{zero-mod, mod-add-div', add-mul, add-mul-mod-self-right, suc-mul, mul-le-mul-right, lt-of-mul-lt-mul-right, le-of-mul-le-mul-right, one-mul}
+use native.Mathlib.Nat.{zero-mod, mod-add-div', add-mul, add-mul-mod-self-right, suc-mul, mul-le-mul-right, lt-of-mul-lt-mul-right, le-of-mul-le-mul-right, one-mul, mul-div-cancel}
 use native.Mathlib.Omega.{arith}
 use lib.Dec.{eqb, leb, ltb}
 use borrow.Author.Tests.{eqb-true, eqb-false, eq-eqb, ne-eqb, le-ltb, ltb-false, not-false}
@@ -176,6 +176,21 @@ grid-some p block flag q v e =
     let d : q / sizeOf block * sizeOf block ≡ q = omega (arith, mod-add-div' q (sizeOf block), on-grid block q g) in
     let h : q ≤ placesOf p block * sizeOf block = subst (λ (x : ℕ). q ≤ x) (ends-fixed p block flag v) (placed-end p block flag q e) in
     (one, le-of-mul-le-mul-right (subst (λ (x : ℕ). x ≤ placesOf p block * sizeOf block) (sym d) h) one)
+
+-- the words from a place to the end are as many places as are left
+count-by : (s n k q w : ℕ) → 1 ≤ s → k * s ≡ q → k ≤ n → w ≡ n * s - q → w / s ≡ n - k
+count-by s n k q w one d h e =
+    let m : n ≡ k + (n - k) = omega arith in
+    let a : n * s ≡ k * s + (n - k) * s = ap (λ (x : ℕ). x * s) m ∙ add-mul k (n - k) s in
+    let b : w ≡ (n - k) * s = omega arith in
+    ap (λ (x : ℕ). x / s) b ∙ mul-div-cancel (n - k) one
+
+pub grid-count : (p block flag q : ℕ) → isVariable block ≡ false → misplaced p block flag (At q) ≡ false
+    → (blocksEnd p block flag - q) / sizeOf block ≡ placesOf p block - q / sizeOf block
+grid-count p block flag q v e =
+    let s = grid-some p block flag q v e in
+    let d : q / sizeOf block * sizeOf block ≡ q = omega (arith, mod-add-div' q (sizeOf block), on-grid block q (placed-grid p block flag q v e)) in
+    count-by (sizeOf block) (placesOf p block) (q / sizeOf block) q _ (s .0) d (s .1) (ap (λ (x : ℕ). x - q) (ends-fixed p block flag v))
 
 some-by : (v a z c : Bool) → v ≡ false → (not v && (a || (z || c))) ≡ false → z ≡ false
 some-by true a z c v e = absurd (true-false v)

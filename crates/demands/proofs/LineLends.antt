@@ -189,7 +189,7 @@ module _ (st : Reader) (q : ℕ) (line room : List ℕ) where
         let xs = placesIn size n ws in
         let x = walkPlaces (st .mode) (st .phase) xs room in
         let c = places-pass (st .mode) (st .phase) xs room in
-        let g = grid st q line room at r (systemOf (st .system)) refl v size (placesOf (systemOf (st .system) .payload) block) refl refl in
+        let g = grid st q line room at r (systemOf (st .system)) refl v size refl in
         let took : x .answer .taken ≡ c .count * size = c .taken size (places-long size n ws (g .fits)) in
         let by : (q + x .answer .taken) / size ≡ q / size + c .count = ap (λ (j : ℕ). (q + j) / size) took ∙ add-mul-div-right q (c .count) (g .one) in
         let left : placesLeft st (q + x .answer .taken) ≡ n - c .count = omega (arith, by) in

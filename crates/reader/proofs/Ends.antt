@@ -69,7 +69,7 @@ module _ (st : Reader) (q : ℕ) (line room : List ℕ) (at : st .place ≡ At q
   fixed-walks v =
       let size = sizeOf block in
       let n = placesOf payload block - q / size in
-      let g = grid st q line room at r (systemOf (st .system)) refl v size (placesOf payload block) refl refl in
+      let g = grid st q line room at r (systemOf (st .system)) refl v size refl in
       let k = places-along (st .mode) (st .phase) size n (wordsFrom st q line) room (g .fits) in
       record {
         room-long = k .room-long (omega (arith, g .small));

@@ -3,8 +3,8 @@
 use mathlib.Core.Path.{_≡_, refl, sym, ap, ap₂, _∙_}
 use mathlib.Core.Bool.{true, false}
 use mathlib.Core.List.{List, [], _∷_, _++_, map}
-use Prim.Native.Nat.{ℕ, zero, suc, _+_, _-_, _*_, _%_, _≤_, _<_}
-use native.Mathlib.Nat.{add-zero, suc-mul, mul-le-mul-right, le-trans, le-of-eq}
+use Prim.Native.Nat.{ℕ, zero, suc, _+_, _-_, _/_, _%_, _≤_, _<_}
+use native.Mathlib.Nat.{add-zero, div-eq-sub-div, div-eq-of-lt}
 use native.Mathlib.Numerals.{add-one}
 use native.Mathlib.Omega.{arith}
 use lib.ListN.{length, getD, take, drop, length-take, length-drop, length-map}
@@ -64,43 +64,47 @@ module _ (mode : ℕ) (p : Phase) (size : ℕ) (one : 1 ≤ size) where
       ap (λ (met : Met). at-place room on met (length x) (drop 1 x)) (ap₂ metAt (getD-take size ws 0 0 one) rest)
       ∙ ap₂ (at-place room on (metAt (getD ws 0 0) (size - 1))) long (drop-take-one size ws one)
 
-  -- the place at i, which reports met, of the places that are left after k
-  module _ (places k i : ℕ) (ws room : List ℕ) (met : Met) (h : k < places) (fits : i + size ≤ length ws) (is : met ≡ metAt (getD ws i 0) (size - 1)) (whole : Walk)
-      (inv : past i (walkPlaces mode p (placesIn size (places - k) (drop i ws)) room) ≡ whole) where
-    at-turn : walkPlaces mode p (placesIn size (places - k) (drop i ws)) room
-        ≡ at-place room (walkPlaces mode p (placesIn size (places - (k + 1)) (drop (i + size) ws)) room) met size (take (i + size - (i + 1)) (drop (i + 1) ws))
+  -- the place at i, which reports met; m places are left with it, and n after it
+  module _ (m n i : ℕ) (ws room : List ℕ) (met : Met) (left : m ≡ suc n) (fits : i + size ≤ length ws) (is : met ≡ metAt (getD ws i 0) (size - 1)) (whole : Walk)
+      (inv : past i (walkPlaces mode p (placesIn size m (drop i ws)) room) ≡ whole) where
+    at-turn : walkPlaces mode p (placesIn size m (drop i ws)) room
+        ≡ at-place room (walkPlaces mode p (placesIn size n (drop (i + size) ws)) room) met size (take (i + size - (i + 1)) (drop (i + 1) ws))
     at-turn =
-        let left : places - k ≡ suc (places - (k + 1)) = omega arith in
         let long : size ≤ length (drop i ws) = rw (length-drop i ws) (omega arith) in
         let short : size - 1 ≡ i + size - (i + 1) = omega arith in
-        let on : List ℕ → Walk = λ l. walkPlaces mode p (placesIn size (places - (k + 1)) l) room in
-        ap (λ (n : ℕ). walkPlaces mode p (placesIn size n (drop i ws)) room) left
-        ∙ first-place (places - (k + 1)) (drop i ws) room long
+        let on : List ℕ → Walk = λ l. walkPlaces mode p (placesIn size n l) room in
+        ap (λ (k : ℕ). walkPlaces mode p (placesIn size k (drop i ws)) room) left
+        ∙ first-place n (drop i ws) room long
         ∙ ap₂ (λ (l : List ℕ) (x : Met). at-place room (on l) x size (take (size - 1) (drop 1 (drop i ws)))) (drop-drop size i ws)
         (ap (λ (w : ℕ). metAt w (size - 1)) (getD-drop i ws 0 0 ∙ ap (λ (j : ℕ). getD ws j 0) (add-zero i)) ∙ sym is)
-        ∙ ap₂ (λ (n : ℕ) (l : List ℕ). at-place room (on (drop (i + size) ws)) met size (take n l)) short (drop-drop 1 i ws)
+        ∙ ap₂ (λ (k : ℕ) (l : List ℕ). at-place room (on (drop (i + size) ws)) met size (take k l)) short (drop-drop 1 i ws)
 
     pub turn-stops : (r : List ℕ) → isNothing met ≡ false → r ≡ placeRoom met (map (valueOf mode) (take (i + size - (i + 1)) (drop (i + 1) ws))) room → after p met (i + size) r ≡ whole
     turn-stops r e laid = ap (after p met (i + size)) laid ∙ ap (past i) (sym (at-turn ∙ stops met _ _ e)) ∙ inv
 
-    pub turn-goes : isNothing met ≡ true → past (i + size) (walkPlaces mode p (placesIn size (places - (k + 1)) (drop (i + size) ws)) room) ≡ whole
+    pub turn-goes : isNothing met ≡ true → past (i + size) (walkPlaces mode p (placesIn size n (drop (i + size) ws)) room) ≡ whole
     turn-goes e = sym (past-past i size _) ∙ ap (past i) (sym (at-turn ∙ goes met _ _ e)) ∙ inv
 
   -- no place is left
-  pub turns-end : (places k i : ℕ) (ws room r : List ℕ) (whole : Walk) → k ≤ places → places ≤ k → r ≡ room
-      → past i (walkPlaces mode p (placesIn size (places - k) (drop i ws)) room) ≡ whole → after p Nothing i r ≡ whole
+  pub turns-end : (m i : ℕ) (ws room r : List ℕ) (whole : Walk) → m ≡ 0 → r ≡ room
+      → past i (walkPlaces mode p (placesIn size m (drop i ws)) room) ≡ whole → after p Nothing i r ≡ whole
   unfolding walkPlaces
-  turns-end places k i ws room r whole a b e inv =
-      let none : 0 ≡ places - k = omega arith in
-      ap₂ (after p Nothing) (sym (add-zero i)) e ∙ ap (λ (n : ℕ). past i (walkPlaces mode p (placesIn size n (drop i ws)) room)) none ∙ inv
+  turns-end m i ws room r whole none e inv =
+      ap₂ (after p Nothing) (sym (add-zero i)) e ∙ ap (λ (n : ℕ). past i (walkPlaces mode p (placesIn size n (drop i ws)) room)) (sym none) ∙ inv
 
 -- ---- where places stand
-pub place-fits : (size places k i long : ℕ) → k < places → i ≡ k * size → places * size ≤ long → i + size ≤ long
-place-fits size places k i long h e fits =
-    le-trans (le-of-eq (ap (λ (j : ℕ). j + size) e ∙ sym (suc-mul k size))) (le-trans (mul-le-mul-right size h) fits)
+pub place-fits : (size i long : ℕ) → i ≤ long → size ≤ long - i → i + size ≤ long
+place-fits size i long h fits = omega arith
 
-pub next-place-at : (size k i : ℕ) → i ≡ k * size → i + size ≡ (k + 1) * size
-next-place-at size k i e = ap (λ (j : ℕ). j + size) e ∙ sym (suc-mul k size) ∙ ap (λ (j : ℕ). j * size) (sym (add-one k))
+-- of the words from i on, one place more than of those behind the place at i
+pub one-left : (size i long : ℕ) → 1 ≤ size → i + size ≤ long → (long - i) / size ≡ suc ((long - (i + size)) / size)
+one-left size i long one fits =
+    let h : size ≤ long - i = omega arith in
+    let e : long - i - size ≡ long - (i + size) = omega arith in
+    div-eq-sub-div one h ∙ add-one _ ∙ ap (λ (n : ℕ). suc (n / size)) e
+
+pub none-left : (size i long : ℕ) → long - i < size → (long - i) / size ≡ 0
+none-left size i long h = div-eq-of-lt h
 
 pub values-fit : (size i long : ℕ) (ws : List ℕ) → size ≤ long → length (take (i + size - (i + 1)) (drop (i + 1) ws)) ≤ long
 values-fit size i long ws h = rw (length-take (i + size - (i + 1)) (drop (i + 1) ws)) (omega arith)

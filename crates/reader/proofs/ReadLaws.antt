@@ -20,7 +20,7 @@ use Rattle.line.proofs.SettingsLaws.{block-passes}
 use Rattle.line.proofs.AreaLaws.{area-most}
 use Rattle.course.specs.declared.Place.the-variants.{At}
 use Rattle.course.specs.Course.{blocksEnd}
-use Rattle.course.proofs.CourseLaws.{end-in-area, placed-end, grid-left, grid-some, whole-small}
+use Rattle.course.proofs.CourseLaws.{end-in-area, placed-end, grid-left, grid-some, grid-count, whole-small}
 use Rattle.reader.specs.declared.state.Reader.{Reader}
 use Rattle.reader.specs.Reading.{call, wordsFrom, walkFrom, readFault, readFrom, reading}
 use Rattle.reader.specs.declared.state.Event.the-variants.{Refused}
@@ -59,29 +59,27 @@ module _ (st : Reader) (q : ℕ) (line room : List ℕ) (at : st .place ≡ At q
       }
 
   -- the places of a fixed line that are left
-  pub record Grid (size places : ℕ) : Type 0 where
+  pub record Grid (size : ℕ) : Type 0 where
     pub one : 1 ≤ size
-    pub before : q / size ≤ places
-    pub fits : (places - q / size) * size ≤ length (wordsFrom st q line)
+    pub count : length (wordsFrom st q line) / size ≡ placesOf (systemOf (st .system) .payload) (st .settings .block) - q / size
+    pub fits : (placesOf (systemOf (st .system) .payload) (st .settings .block) - q / size) * size ≤ length (wordsFrom st q line)
     pub small : size ≤ length room
 
-  pub grid : isVariable (st .settings .block) ≡ false → (size places : ℕ) → size ≡ sizeOf (st .settings .block) → places ≡ placesOf (s .payload) (st .settings .block) → Grid size places
+  pub grid : isVariable (st .settings .block) ≡ false → (size : ℕ) → size ≡ sizeOf (st .settings .block) → Grid size
   unfolding fitsLength
-  grid v size places is are =
+  grid v size is =
       let known : isSystem (st .system) ≡ true = both-true (isSystem (st .system)) _ (r .fit) .0 in
       let b = at-q st q line room at r in
       let p = systemOf (st .system) .payload in
       let block = st .settings .block in
       let flag = st .settings .flag in
-      let n : places ≡ placesOf p block = are ∙ ap (λ (x : System). placesOf (x .payload) block) row in
-      let some = grid-some p block flag q v (b .placed) in
       let left = grid-left p block flag q (placesOf p block - q / sizeOf block) v (b .placed) (omega arith) in
       let area = end-in-area (st .system) (st .settings) known (eqb-true _ 0 (not-false _ (b .clean))) in
       let most = area-most p flag in
-      rw (is, n)
+      rw is
       (record {
-        one = some .0;
-        before = some .1;
+        one = grid-some p block flag q v (b .placed) .0;
+        count = ap (λ (n : ℕ). n / sizeOf block) (words-long st q line room at r) ∙ grid-count p block flag q v (b .placed);
         fits = omega (arith, words-long st q line room at r, left);
         small = omega (arith, whole-small p block flag v (block-passes (st .system) (st .settings) (eqb-true _ 0 (not-false _ (b .clean)))), area, most, payload-most (st .system), r .long);
       })

@@ -7,7 +7,7 @@ use words::class;
 use words::class::Class;
 ghost use mathlib.Core.Path.{_≡_};
 ghost use mathlib.Core.List.{map};
-ghost use Prim.Native.Nat.{_+_, _*_, _≤_};
+ghost use Prim.Native.Nat.{_/_, _≤_};
 ghost use lib.ListN.{length};
 ghost use Rattle.words.specs.Modes.{valueOf};
 ghost use Rattle.reader.specs.Walk.{leaves};
@@ -51,21 +51,20 @@ fn put_place(mode: u8, met: Met, words: &[u16], room: &mut [u16])
     }
 }
 
-// The walk over that many places of that size.
+// The walk over places of that size, as long as a whole one is left. It counts no places, so that no call divides.
 pub(crate) fn walk_places(
     mode: u8,
     phase: Phase,
     size: usize,
-    places: usize,
     words: &[u16],
     room: &mut [u16],
 ) -> Walked
-    requires { ⌜ (1 ≤ size) × (places * size ≤ length (now words)) × (size ≤ length (now room)) ⌝ }
-    ensures { λ r. ⌜ leaves r (now (room .exit)) ≡ walkPlaces mode phase (placesIn size places (now (words .entry))) (now (room .entry)) ⌝ }
+    requires { ⌜ (1 ≤ size) × (size ≤ length (now room)) ⌝ }
+    ensures { λ r. ⌜ leaves r (now (room .exit))
+        ≡ walkPlaces mode phase (placesIn size (length (now (words .entry)) / size) (now (words .entry))) (now (room .entry)) ⌝ }
 {
-    let mut k = 0;
     let mut i = 0;
-    while k < places {
+    while size <= words.len() - i {
         let e = i + size;
         let met = met_at(words[i], size - 1);
         if !walk::is_nothing(met) {
@@ -77,7 +76,6 @@ pub(crate) fn walk_places(
             };
         }
         i = e;
-        k += 1;
     }
     Walked {
         phase: phase,

@@ -46,15 +46,7 @@ fn walk_from(st: Reader, q: u16, line: &[u16], room: &mut [u16]) -> Walked
         return walk::walk(st.mode, phase, &line[i..e], room);
     }
     let size = fixed::size_of(settings.block);
-    let places = fixed::places_of(s.payload, settings.block) - q / size;
-    places::walk_places(
-        st.mode,
-        phase,
-        size as usize,
-        places as usize,
-        &line[i..e],
-        room,
-    )
+    places::walk_places(st.mode, phase, size as usize, &line[i..e], room)
 }
 
 // The state with another place and phase.

@@ -1,12 +1,12 @@
 -- `reader::read::walk_from` meets its contract. Assumes nothing.
-use mathlib.Core.Path.{_≡_, sym, ap, ap₂, _∙_, subst}
+use mathlib.Core.Path.{_≡_, sym, ap, _∙_}
 use mathlib.Core.Bool.{false}
 use mathlib.Core.List.{List}
-use Prim.Native.Nat.{ℕ, _-_, _*_, _/_, _≤_}
+use Prim.Native.Nat.{ℕ, _-_, _/_}
 use native.Mathlib.Omega.{arith}
 use lib.ListN.{length}
 use Rattle.lists.proofs.Tests.{pick-true, pick-false}
-use Rattle.line.specs.declared.systems.System.{System}
+use Rattle.line.specs.Systems.{systemOf}
 use Rattle.line.specs.Fixed.{isVariable, placesOf}
 use Rattle.reader.specs.Walk.{walkOf}
 use Rattle.reader.specs.Places.{placesIn, walkPlaces}
@@ -37,15 +37,13 @@ fixed-line : (b : tie.Else1) →
     isVariable (g .st .settings .block) ≡ false
 fixed-line b = sym (b .before .is-variable .ensures) ∙ b .if1 .left
 
-gridded : (n : tie.After-places-of) →
-    let x = n .before .before .before .before .before .before .before in
+gridded : (n : tie.After-size-of) →
+    let x = n .before .before .before .before .before .before in
     let g = x .before .before .before .args in
-    Grid (g .st) (g .q) (g .line .now) (g .room .now) (x .before .before .before .pre .0) (is-ready x) (x .system-of .result) (x .system-of .ensures)
-    (n .before .size-of .result) (n .places-of .result)
+    Grid (g .st) (g .q) (g .line .now) (g .room .now) (x .before .before .before .pre .0) (is-ready x) (x .system-of .result) (x .system-of .ensures) (n .size-of .result)
 gridded n =
-    let x = n .before .before .before .before .before .before .before in
-    grid _ _ _ _ _ (is-ready x) (x .system-of .result) (x .system-of .ensures) (fixed-line (n .before .before)) (n .before .size-of .result) (n .places-of .result)
-    (n .before .size-of .ensures) (n .places-of .ensures)
+    let x = n .before .before .before .before .before .before in
+    grid _ _ _ _ _ (is-ready x) (x .system-of .result) (x .system-of .ensures) (fixed-line (n .before)) (n .size-of .result) (n .size-of .ensures)
 
 system-of-requires : tie.Need-system-of-requires
 system-of-requires c κs = search needs
@@ -96,40 +94,23 @@ returns c =
 size-of-requires : tie.Need-size-of-requires
 size-of-requires c κs = search needs
 
-places-of-requires : tie.Need-places-of-requires
-places-of-requires c κs = search needs
-
-div-places : tie.Need-div-places
-div-places c = let z = gridded c in omega (arith, z .one)
-
-sub-places : tie.Need-sub-places
-sub-places c = gridded c .before
-
 cast-walk-places : tie.Need-cast-walk-places
 cast-walk-places c = search needs
 
-cast-walk-places-2 : tie.Need-cast-walk-places-2
-cast-walk-places-2 c = search needs
-
 mul-walk-places : tie.Need-mul-walk-places
-mul-walk-places c = let z = spanned (c .before .before .before .before) in omega (arith, z .ends, z .small, z .inside)
+mul-walk-places c = let z = spanned (c .before .before .before) in omega (arith, z .ends, z .small, z .inside)
 
 sub-walk-places : tie.Need-sub-walk-places
-sub-walk-places c = let z = spanned (c .before .before .before .before) in omega (arith, z .inside)
+sub-walk-places c = let z = spanned (c .before .before .before) in omega (arith, z .inside)
 
 part-walk-places-start : tie.Need-part-walk-places-start
-part-walk-places-start c = let z = spanned (c .before .before .before .before) in omega (arith, z .inside)
+part-walk-places-start c = let z = spanned (c .before .before .before) in omega (arith, z .inside)
 
 part-walk-places-end : tie.Need-part-walk-places-end
-part-walk-places-end c = spanned (c .before .before .before .before) .ends
+part-walk-places-end c = spanned (c .before .before .before) .ends
 
 walk-places-requires : tie.Need-walk-places-requires
-walk-places-requires c κs =
-    let n = c .before .before in
-    let z = gridded n in
-    let w = spanned (n .before .before .before .before) .words in
-    let q = n .before .before .before .before .before .before .before .before .before .before .args .q in
-    (z .one, subst (λ (ws : List ℕ). (n .places-of .result - q / n .before .size-of .result) * n .before .size-of .result ≤ length ws) (sym w) (z .fits), z .small)
+walk-places-requires c κs = let z = gridded (c .before .before) in (z .one, z .small)
 
 same-length-2 : tie.Need-same-length-2
 same-length-2 c = search needs
@@ -138,15 +119,17 @@ returns-2 : tie.Need-returns-2
 unfolding walkFrom
 returns-2 c =
     let n = c .before .before .before .before .before in
-    let b = n .before .before .before .before in
+    let b = n .before .before .before in
     let x = b .before .before .before in
     let g = x .before .before .before .args in
-    let p = n .places-of .ensures ∙ ap (λ (y : System). placesOf (y .payload) (g .st .settings .block)) (x .system-of .ensures) in
-    let k : ℕ → ℕ → List ℕ → _ = λ size places ws. walkPlaces (g .st .mode) (g .st .phase) (placesIn size (places - g .q / size) ws) (g .room .now) in
+    let ws = wordsFrom (g .st) (g .q) (g .line .now) in
+    let p = placesOf (systemOf (g .st .system) .payload) (g .st .settings .block) in
+    let k : ℕ → ℕ → List ℕ → _ = λ size places ws. walkPlaces (g .st .mode) (g .st .phase) (placesIn size places ws) (g .room .now) in
     c .before .before .walk-places .ensures
-    ∙ ap (k (n .before .size-of .result) (n .places-of .result)) (spanned b .words)
-    ∙ ap₂ (λ (size places : ℕ). k size places (wordsFrom (g .st) (g .q) (g .line .now))) (n .before .size-of .ensures) p
-    ∙ sym (pick-false _ _ (fixed-line (n .before .before)))
+    ∙ ap (λ (ws : List ℕ). k (n .size-of .result) (length ws / n .size-of .result) ws) (spanned b .words)
+    ∙ ap (λ (places : ℕ). k (n .size-of .result) places ws) (gridded n .count)
+    ∙ ap (λ (size : ℕ). k size (p - g .q / size) ws) (n .size-of .ensures)
+    ∙ sym (pick-false _ _ (fixed-line (n .before)))
 
 pub walk-from-spec : {M : Type 1} → statement M
 walk-from-spec =
@@ -166,11 +149,7 @@ walk-from-spec =
     same-length
     returns
     size-of-requires
-    places-of-requires
-    div-places
-    sub-places
     cast-walk-places
-    cast-walk-places-2
     mul-walk-places
     sub-walk-places
     part-walk-places-start
