@@ -1,10 +1,10 @@
 // The reading call. With no line begun it begins one or refuses it; later it goes on from the place in the line to a block, a
 // drop or the line's end. Words of a begun line are not checked again.
 use crate::begin;
+use crate::machine;
 use crate::machine::Met;
 use crate::machine::Phase;
 use crate::places;
-use crate::state;
 use crate::state::Event;
 use crate::state::Reader;
 use crate::state::Told;
@@ -18,34 +18,56 @@ ghost use mathlib.Core.Path.{_≡_};
 ghost use mathlib.Core.Bool.{false};
 ghost use Prim.Native.Nat.{_+_, _≤_};
 ghost use lib.ListN.{length};
+ghost use Rattle.line.specs.Systems.{systemOf};
+ghost use Rattle.line.specs.Fixed.{sizeOf};
+ghost use Rattle.course.specs.Course.{blocksEnd};
 ghost use Rattle.course.specs.declared.Place.the-variants.{At};
 ghost use Rattle.reader.specs.Walk.{leaves};
 ghost use Rattle.reader.specs.Reading.{call, becomes, walkFrom, toldBy, goesFrom, readFault, reading};
 
-// The lower of 1 and 2 that holds, or 0.
-fn read_fault(st: Reader, long: usize, room: usize) -> u8
-    ensures { λ r. ⌜ r ≡ readFault st long room ⌝ }
+// What a call asks before it reads: the lower of 1 and 2 that holds, or 0; where blocks end in the line; and the size of a fixed block.
+struct Asked {
+    fault: u8,
+    end: usize,
+    size: u16,
+}
+
+// The table of fixed blocks is looked up once a call.
+fn ask(st: Reader, long: usize, room: usize) -> Asked
+    ensures { λ r. ⌜ (r .fault ≡ readFault st long room)
+        × (r .end ≡ blocksEnd (systemOf (st .system) .payload) (st .settings .block) (st .settings .flag))
+        × (r .size ≡ sizeOf (st .settings .block)) ⌝ }
 {
-    let r2 = lists::or_else(state::is_impossible(st), 2, 0);
+    let last = st.last;
+    let settings = st.settings;
+    let place = st.place;
+    let phase = st.phase;
+    let x = course::look(st.system, last, settings, place, machine::is_busy(phase));
+    let r2 = lists::or_else(x.impossible | machine::is_misphased(16384, phase), 2, 0);
     let fits = check::is_fit(st.system, st.mode, long) & (room == 16384);
-    lists::or_else(!fits, 1, r2)
+    let fault = lists::or_else(!fits, 1, r2);
+    Asked {
+        fault: fault,
+        end: x.end,
+        size: x.size,
+    }
 }
 
 // The walk from place q to the end of the words in which blocks stand.
-fn walk_from(st: Reader, q: u16, line: &[u16], room: &mut [u16]) -> Walked
-    requires { ⌜ (st .place ≡ At q) × (readFault st (length (now line)) (length (now room)) ≡ 0) ⌝ }
+fn walk_from(st: Reader, end: usize, size: u16, q: u16, line: &[u16], room: &mut [u16]) -> Walked
+    requires { ⌜ (st .place ≡ At q) × (readFault st (length (now line)) (length (now room)) ≡ 0)
+        × (end ≡ blocksEnd (systemOf (st .system) .payload) (st .settings .block) (st .settings .flag)) × (size ≡ sizeOf (st .settings .block)) ⌝ }
     ensures { λ r. ⌜ leaves r (now (room .exit)) ≡ walkFrom st q (now (line .entry)) (now (room .entry)) ⌝ }
 {
     let s = systems::system_of(st.system);
     let settings = st.settings;
     let phase = st.phase;
     let a = s.length - s.payload;
-    let e = a + course::blocks_end(s.payload, settings.block, settings.flag);
+    let e = a + end;
     let i = a + q as usize;
     if fixed::is_variable(settings.block) {
         return walk::walk(st.mode, phase, &line[i..e], room);
     }
-    let size = fixed::size_of(settings.block);
     places::walk_places(st.mode, phase, size as usize, &line[i..e], room)
 }
 
@@ -89,11 +111,12 @@ fn tell(st: Reader, q: u16, phase: Phase, met: Met) -> Told
 }
 
 // Goes on from place q.
-fn read_on(st: Reader, q: u16, line: &[u16], room: &mut [u16]) -> Told
-    requires { ⌜ (st .place ≡ At q) × (readFault st (length (now line)) (length (now room)) ≡ 0) ⌝ }
+fn read_on(st: Reader, end: usize, size: u16, q: u16, line: &[u16], room: &mut [u16]) -> Told
+    requires { ⌜ (st .place ≡ At q) × (readFault st (length (now line)) (length (now room)) ≡ 0)
+        × (end ≡ blocksEnd (systemOf (st .system) .payload) (st .settings .block) (st .settings .flag)) × (size ≡ sizeOf (st .settings .block)) ⌝ }
     ensures { λ r. ⌜ call r (now (room .exit)) ≡ goesFrom st q (walkFrom st q (now (line .entry)) (now (room .entry))) ⌝ }
 {
-    let x = walk_from(st, q, line, room);
+    let x = walk_from(st, end, size, q, line, room);
     let phase = x.phase;
     let met = x.met;
     let next = q as usize + x.taken;
@@ -104,11 +127,11 @@ fn read_on(st: Reader, q: u16, line: &[u16], room: &mut [u16]) -> Told
 pub fn read(st: Reader, line: &[u16], room: &mut [u16]) -> Told
     ensures { λ r. ⌜ call r (now (room .exit)) ≡ reading st (now (line .entry)) (now (room .entry)) ⌝ }
 {
-    let fault = read_fault(st, line.len(), room.len());
-    if fault != 0 {
+    let x = ask(st, line.len(), room.len());
+    if x.fault != 0 {
         return Told {
             event: Event::Refused {
-                answer: fault,
+                answer: x.fault,
                 dropped: false,
             },
             state: st,
@@ -117,6 +140,6 @@ pub fn read(st: Reader, line: &[u16], room: &mut [u16]) -> Told
     let place = st.place;
     match place {
         Place::Shut => begin::start(st, line),
-        Place::At(q) => read_on(st, q, line, room),
+        Place::At(q) => read_on(st, x.end, x.size, q, line, room),
     }
 }

@@ -8,13 +8,13 @@ use borrow.Author.Needs.{needs}
 use Rattle.reader.proofs.read.read.Statement.{statement}
 use Rattle.reader.proofs.read.read.Tie as tie
 
-read-fault-requires : tie.Need-read-fault-requires
-read-fault-requires c κs = search needs
+ask-requires : tie.Need-ask-requires
+ask-requires c κs = search needs
 
 returns : tie.Need-returns
 returns c =
-    let g = c .before .before .before .before .args in
-    read-refused (g .st) (g .line .now) (g .room .now) _ (c .before .read-fault .ensures) (c .if1 .taken)
+    let g = c .before .before .before .before .before .args in
+    read-refused (g .st) (g .line .now) (g .room .now) _ (c .before .before .ask .ensures .0) (c .if1 .taken)
 
 enum-told : tie.Need-enum-told
 enum-told c = search needs
@@ -28,15 +28,15 @@ enum-known-place c = search needs
 read-on-requires : tie.Need-read-on-requires
 read-on-requires c κs =
     let f = c .before .before .before .before in
-    (c .before .before .place .given .1, sym (f .before .read-fault .ensures) ∙ f .if1 .left)
+    (c .before .before .place .given .1, sym (f .before .before .ask .ensures .0) ∙ f .if1 .left, f .before .before .ask .ensures .1, f .before .before .ask .ensures .2)
 
 returns-2 : tie.Need-returns-2
 returns-2 c =
     let f = c .before .before .before in
-    let g = f .before .before .before .before .args in
+    let g = f .before .before .before .before .before .args in
     ap (λ (t : Told). call t (g .room .now)) (c .start .ensures)
     ∙ ap (λ (p : Place). readFrom p (g .st) (g .line .now) (g .room .now)) (sym (c .before .enum-told .given .1))
-    ∙ read-goes (g .st) (g .line .now) (g .room .now) _ (f .before .read-fault .ensures) (f .if1 .left)
+    ∙ read-goes (g .st) (g .line .now) (g .room .now) _ (f .before .before .ask .ensures .0) (f .if1 .left)
 
 same-length : tie.Need-same-length
 same-length c = search needs
@@ -45,16 +45,16 @@ returns-3 : tie.Need-returns-3
 returns-3 c =
     let o = c .before .before in
     let f = o .before .before .before .before .before in
-    let g = f .before .before .before .before .args in
+    let g = f .before .before .before .before .before .args in
     o .read-on .ensures
     ∙ ap (λ (p : Place). readFrom p (g .st) (g .line .now) (g .room .now)) (sym (o .before .before .before .place .given .1))
-    ∙ read-goes (g .st) (g .line .now) (g .room .now) _ (f .before .read-fault .ensures) (f .if1 .left)
+    ∙ read-goes (g .st) (g .line .now) (g .room .now) _ (f .before .before .ask .ensures .0) (f .if1 .left)
 
 pub read-spec : {M : Type 1} → statement M
 read-spec =
     tie.close
     (tie.spec
-    read-fault-requires
+    ask-requires
     returns
     enum-told
     start-requires

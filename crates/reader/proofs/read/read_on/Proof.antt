@@ -39,7 +39,7 @@ returns : tie.Need-returns
 returns c =
     let x = c .before .before .before .before in
     let g = x .before .before .before .before .args in
-    ap (λ (t : Told). call t (x .walk-from .last .1 .1 .1 .0)) (c .tell .ensures) ∙ ap (goesFrom (g .st) (g .q)) (x .walk-from .ensures)
+    ap (λ (t : Told). call t (x .walk-from .last .1 .1 .1 .1 .1 .0)) (c .tell .ensures) ∙ ap (goesFrom (g .st) (g .q)) (x .walk-from .ensures)
 
 pub read-on-spec : {M : Type 1} → statement M
 read-on-spec =

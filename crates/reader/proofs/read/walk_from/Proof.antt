@@ -6,8 +6,10 @@ use Prim.Native.Nat.{ℕ, _-_, _/_}
 use native.Mathlib.Omega.{arith}
 use lib.ListN.{length}
 use Rattle.lists.proofs.Tests.{pick-true, pick-false}
+use Rattle.line.specs.declared.systems.System.{System}
 use Rattle.line.specs.Systems.{systemOf}
 use Rattle.line.specs.Fixed.{isVariable, placesOf}
+use Rattle.course.specs.Course.{blocksEnd}
 use Rattle.reader.specs.Walk.{walkOf}
 use Rattle.reader.specs.Places.{placesIn, walkPlaces}
 use Rattle.reader.specs.Reading.{walkFrom, wordsFrom}
@@ -22,28 +24,28 @@ is-ready : (x : tie.After-system-of) → let g = x .before .before .before .args
 is-ready x = let g = x .before .before .before .args in ready (g .st) (g .line .now) (g .room .now) (x .before .before .before .pre .1)
 
 -- the part that is lent
-spanned : (b : tie.After-blocks-end) →
-    let x = b .before .before .before in
+spanned : (x : tie.After-system-of) →
     let g = x .before .before .before .args in
     let s = x .system-of .result in
-    Span (g .st) (g .q) (g .line .now) (g .room .now) (x .before .before .before .pre .0) (is-ready x) s (x .system-of .ensures) (s .length - s .payload) (b .blocks-end .result)
-spanned b =
-    let x = b .before .before .before in
-    span _ _ _ _ _ (is-ready x) (x .system-of .result) (x .system-of .ensures) (b .blocks-end .result) (b .blocks-end .ensures)
+    Span (g .st) (g .q) (g .line .now) (g .room .now) (x .before .before .before .pre .0) (is-ready x) s (x .system-of .ensures) (s .length - s .payload) (g .end)
+spanned x =
+    let g = x .before .before .before .args in
+    let same = ap (λ (s : System). blocksEnd (s .payload) (g .st .settings .block) (g .st .settings .flag)) (x .system-of .ensures) in
+    span _ _ _ _ _ (is-ready x) (x .system-of .result) (x .system-of .ensures) (g .end) (x .before .before .before .pre .2 ∙ sym same)
 
 -- a fixed line's places
 fixed-line : (b : tie.Else1) →
-    let g = b .before .before .before .before .before .before .before .before .args in
+    let g = b .before .before .before .before .before .before .before .args in
     isVariable (g .st .settings .block) ≡ false
 fixed-line b = sym (b .before .is-variable .ensures) ∙ b .if1 .left
 
-gridded : (n : tie.After-size-of) →
-    let x = n .before .before .before .before .before .before in
+gridded : (n : tie.Else1) →
+    let x = n .before .before .before .before in
     let g = x .before .before .before .args in
-    Grid (g .st) (g .q) (g .line .now) (g .room .now) (x .before .before .before .pre .0) (is-ready x) (x .system-of .result) (x .system-of .ensures) (n .size-of .result)
+    Grid (g .st) (g .q) (g .line .now) (g .room .now) (x .before .before .before .pre .0) (is-ready x) (x .system-of .result) (x .system-of .ensures) (g .size)
 gridded n =
-    let x = n .before .before .before .before .before .before in
-    grid _ _ _ _ _ (is-ready x) (x .system-of .result) (x .system-of .ensures) (fixed-line (n .before)) (n .size-of .result) (n .size-of .ensures)
+    let x = n .before .before .before .before in
+    grid _ _ _ _ _ (is-ready x) (x .system-of .result) (x .system-of .ensures) (fixed-line n) _ (x .before .before .before .pre .3)
 
 system-of-requires : tie.Need-system-of-requires
 system-of-requires c κs = search needs
@@ -51,29 +53,26 @@ system-of-requires c κs = search needs
 sub-a : tie.Need-sub-a
 sub-a c = payload-in _ _ _ _ (c .before .before .before .before .before .pre .0) (is-ready (c .before .before)) _ (c .before .before .system-of .ensures)
 
-blocks-end-requires : tie.Need-blocks-end-requires
-blocks-end-requires c κs = search needs
-
 add-e : tie.Need-add-e
-add-e c = let z = spanned c in omega (arith, z .ends, z .small)
+add-e c = let z = spanned (c .before .before) in omega (arith, z .ends, z .small)
 
 add-i : tie.Need-add-i
-add-i c = let z = spanned c in omega (arith, z .ends, z .small, z .inside)
+add-i c = let z = spanned (c .before .before) in omega (arith, z .ends, z .small, z .inside)
 
 is-variable-requires : tie.Need-is-variable-requires
 is-variable-requires c κs = search needs
 
 mul-walk : tie.Need-mul-walk
-mul-walk c = let z = spanned (c .before .before) in omega (arith, z .ends, z .small, z .inside)
+mul-walk c = let z = spanned (c .before .before .before .before) in omega (arith, z .ends, z .small, z .inside)
 
 sub-walk : tie.Need-sub-walk
-sub-walk c = let z = spanned (c .before .before) in omega (arith, z .inside)
+sub-walk c = let z = spanned (c .before .before .before .before) in omega (arith, z .inside)
 
 part-walk-start : tie.Need-part-walk-start
-part-walk-start c = let z = spanned (c .before .before) in omega (arith, z .inside)
+part-walk-start c = let z = spanned (c .before .before .before .before) in omega (arith, z .inside)
 
 part-walk-end : tie.Need-part-walk-end
-part-walk-end c = spanned (c .before .before) .ends
+part-walk-end c = spanned (c .before .before .before .before) .ends
 
 walk-requires : tie.Need-walk-requires
 walk-requires c κs = search needs
@@ -85,29 +84,23 @@ returns : tie.Need-returns
 unfolding walkFrom
 returns c =
     let v = c .before .before .before .before .before .before in
-    let b = v .before in
-    let g = b .before .before .before .before .before .before .args in
+    let x = v .before .before .before in
+    let g = x .before .before .before .args in
     c .before .before .walk .ensures
-    ∙ ap (λ (ws : List ℕ). walkOf (g .st .mode) (g .st .phase) ws (g .room .now)) (spanned b .words)
+    ∙ ap (λ (ws : List ℕ). walkOf (g .st .mode) (g .st .phase) ws (g .room .now)) (spanned x .words)
     ∙ sym (pick-true _ _ (sym (v .is-variable .ensures) ∙ c .before .before .before .before .before .if1 .taken))
 
-size-of-requires : tie.Need-size-of-requires
-size-of-requires c κs = search needs
-
-cast-walk-places : tie.Need-cast-walk-places
-cast-walk-places c = search needs
-
 mul-walk-places : tie.Need-mul-walk-places
-mul-walk-places c = let z = spanned (c .before .before .before) in omega (arith, z .ends, z .small, z .inside)
+mul-walk-places c = let z = spanned (c .before .before .before .before) in omega (arith, z .ends, z .small, z .inside)
 
 sub-walk-places : tie.Need-sub-walk-places
-sub-walk-places c = let z = spanned (c .before .before .before) in omega (arith, z .inside)
+sub-walk-places c = let z = spanned (c .before .before .before .before) in omega (arith, z .inside)
 
 part-walk-places-start : tie.Need-part-walk-places-start
-part-walk-places-start c = let z = spanned (c .before .before .before) in omega (arith, z .inside)
+part-walk-places-start c = let z = spanned (c .before .before .before .before) in omega (arith, z .inside)
 
 part-walk-places-end : tie.Need-part-walk-places-end
-part-walk-places-end c = spanned (c .before .before .before) .ends
+part-walk-places-end c = spanned (c .before .before .before .before) .ends
 
 walk-places-requires : tie.Need-walk-places-requires
 walk-places-requires c κs = let z = gridded (c .before .before) in (z .one, z .small)
@@ -119,17 +112,16 @@ returns-2 : tie.Need-returns-2
 unfolding walkFrom
 returns-2 c =
     let n = c .before .before .before .before .before in
-    let b = n .before .before .before in
-    let x = b .before .before .before in
+    let x = n .before .before .before .before in
     let g = x .before .before .before .args in
     let ws = wordsFrom (g .st) (g .q) (g .line .now) in
     let p = placesOf (systemOf (g .st .system) .payload) (g .st .settings .block) in
     let k : ℕ → ℕ → List ℕ → _ = λ size places ws. walkPlaces (g .st .mode) (g .st .phase) (placesIn size places ws) (g .room .now) in
     c .before .before .walk-places .ensures
-    ∙ ap (λ (ws : List ℕ). k (n .size-of .result) (length ws / n .size-of .result) ws) (spanned b .words)
-    ∙ ap (λ (places : ℕ). k (n .size-of .result) places ws) (gridded n .count)
-    ∙ ap (λ (size : ℕ). k size (p - g .q / size) ws) (n .size-of .ensures)
-    ∙ sym (pick-false _ _ (fixed-line (n .before)))
+    ∙ ap (λ (ws : List ℕ). k (g .size) (length ws / g .size) ws) (spanned x .words)
+    ∙ ap (λ (places : ℕ). k (g .size) places ws) (gridded n .count)
+    ∙ ap (λ (size : ℕ). k size (p - g .q / size) ws) (x .before .before .before .pre .3)
+    ∙ sym (pick-false _ _ (fixed-line n))
 
 pub walk-from-spec : {M : Type 1} → statement M
 walk-from-spec =
@@ -137,7 +129,6 @@ walk-from-spec =
     (tie.spec
     system-of-requires
     sub-a
-    blocks-end-requires
     add-e
     add-i
     is-variable-requires
@@ -148,8 +139,6 @@ walk-from-spec =
     walk-requires
     same-length
     returns
-    size-of-requires
-    cast-walk-places
     mul-walk-places
     sub-walk-places
     part-walk-places-start
