@@ -154,9 +154,6 @@ module _ (system mode : ℕ) (keeps : ℕ → Bool) (before : Last) (gone : Bool
     }
 
   -- ---- the whole
-  abbrev Variable : Bool → Type 0
-  Variable b = isVariable (d .now .settings .block) ≡ b
-
   -- what the line's kind says of the addition
   pub record Says : Type 0 where
     pub varies : isVariable (d .now .settings .block) ≡ true → Varies mode d kind vs

@@ -16,17 +16,16 @@ use Rattle.line.specs.declared.settings.Settings.{Settings}
 use Rattle.line.specs.Fixed.{isVariable, sizeOf}
 use Rattle.course.specs.declared.Place.{Place}
 use Rattle.course.specs.declared.Place.the-variants.{At}
-use Rattle.course.specs.Course.{isAt, placeOf}
+use Rattle.course.specs.Course.{isAt}
 use Rattle.writer.specs.declared.state.Rest.{Rest}
 use Rattle.writer.specs.declared.state.Rest.the-variants.{Whole, Part}
 use Rattle.writer.specs.declared.state.Laid.{Laid}
 use Rattle.writer.specs.declared.state.Laid.the-variants.{Finished, Unfinished}
 use Rattle.writer.specs.State.{most, laidOf}
-use Rattle.writer.specs.Answers.{laidNumbers, Added}
+use Rattle.writer.specs.Answers.{laidNumbers}
 use Rattle.writer.specs.Block.{blockWords, fixedWords, wordsIn}
 use Rattle.writer.specs.Adding.{valued, illShaped, isOther, addFault, todo, room, adding}
 use Rattle.writer.specs.Course.{pieceOf, asLaid}
-use Rattle.writer.proofs.Keeps.{add-leaves}
 use Rattle.writer.proofs.BlockLaws.{words-long}
 use Rattle.writer.proofs.Legal.{each-take, each-drop}
 use Rattle.writer.proofs.Refusals.{CanAdd, can-add, count, count-variable}
@@ -119,11 +118,6 @@ module _ (system mode : ℕ) (d : Desk) (kind : ℕ) (vs : List ℕ) (ok : DeskO
       let same = ap length (sym (piece-laid (d .writer) (d .now .words) kind vs clear) ∙ all-laid (d .writer) (d .now .words) kind vs clear e) in
       omega (arith, same, length-take (room (d .writer) ws) ws)
 
-  place-now : (p : ℕ) → adding (d .writer) (d .now .words) kind vs .state .place ≡ At p → 1 ≤ p
-  place-now p e =
-      let moves = ap (λ (x : Added). placeOf (x .state .place)) (add-leaves (d .writer) (d .now .words) kind vs clear) in
-      omega (arith, some-laid, moves, ap placeOf e)
-
   -- ---- a variable line
   module _ (v : isVariable (d .writer .settings .block) ≡ true) where
     variable-words : (us : List ℕ) → wordsIn (d .writer .settings .block) (d .writer .mode) kind us ≡ blockWords mode kind us
@@ -158,7 +152,6 @@ module _ (system mode : ℕ) (d : Desk) (kind : ℕ) (vs : List ℕ) (ok : DeskO
       piece = piece-now;
       ends = ends-now;
       goes-on = λ e. omega (arith, goes-now e .1, lent-now .long);
-      moved = place-now;
     }
 
     block-long : (us : List ℕ) → length (blockWords mode kind us) ≡ length us + 7

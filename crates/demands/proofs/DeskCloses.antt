@@ -133,7 +133,6 @@ closes-say system mode d ok done =
       accepts =
           closed-accepted system mode (d .now .f) (d .now .v) (d .now .number) t (o .held) (o .known) (o .moded) (o .row) (o .clean) (o .one)
           (o .most-lines) (d .now .pieces) (d .writer) (d .now .words) (o .is-open) done;
-      fits = o .is-open .within;
       last-is = o .last-is;
       settings-are = o .is-open .of-settings;
       state-last = ap (λ (x : Left). x .state .last) e;

@@ -42,7 +42,6 @@ pub record Varies (mode : ℕ) (d : Desk) (kind : ℕ) (vs : List ℕ) : Type 0 
   pub piece : pieceOf (d .writer) (d .now .words) kind vs ≡ take k (drop (laidOf (d .writer .rest)) (blockWords mode kind (valuesNow d vs)))
   pub ends : adding (d .writer) (d .now .words) kind vs .answer ≡ Finished → laidOf (d .writer .rest) + k ≡ length (valuesNow d vs) + 7
   pub goes-on : adding (d .writer) (d .now .words) kind vs .answer ≡ Unfinished → laidOf (d .writer .rest) + k ≤ length (valuesNow d vs) + 6
-  pub moved : (p : ℕ) → adding (d .writer) (d .now .words) kind vs .state .place ≡ At p → 1 ≤ p
 
 -- laid in a fixed line: a whole place
 pub record Fills (mode : ℕ) (d : Desk) (kind : ℕ) (vs : List ℕ) : Type 0 where
@@ -60,7 +59,6 @@ pub record Closes (system mode : ℕ) (d : Desk) : Type 0 where
   pub is : closing (d .writer) (d .now .words) .line
       ≡ lineWords (systemOf system) (d .now .f) (d .now .v) (d .now .number) (d .now .settings) (areaFrom (systemOf system .payload) (d .now .settings .flag) (d .now .pieces))
   pub accepts : Accepted system mode (d .now .number) (d .now .settings) (areaFrom (systemOf system .payload) (d .now .settings .flag) (d .now .pieces)) (closing (d .writer) (d .now .words) .line)
-  pub fits : length (joined (d .now .pieces)) ≤ areaLength (systemOf system .payload) (d .now .settings .flag)
   pub last-is : d .writer .last ≡ Number (d .now .number)
   pub settings-are : d .writer .settings ≡ d .now .settings
   pub state-last : closing (d .writer) (d .now .words) .state .last ≡ d .writer .last

@@ -65,21 +65,6 @@ walk-runs mode p (w ∷ ws) room =
     let r = stored (s .keeps) (collectedOf p) (valueOf mode w) room in
     word-runs mode p (s .phase) w ws room r (s .met) (walkOf mode (s .phase) ws r) refl refl (walk-runs mode (s .phase) ws r)
 
-module _ (mode : ℕ) (p : Phase) (ws room : List ℕ) where
-  -- what is heard to the words' end: the report, then what is heard of the words that are left
-  pub walk-out : runOut mode (now p room) ws
-      ≡ metHeard (walkOf mode p ws room .answer .met) (walkOf mode p ws room .room)
-      ++ runOut mode (now (walkOf mode p ws room .answer .phase) (walkOf mode p ws room .room)) (drop (walkOf mode p ws room .answer .taken) ws)
-  walk-out = walk-runs mode p ws room .out
-
-  pub walk-to : runTo mode (now p room) ws
-      ≡ runTo mode (now (walkOf mode p ws room .answer .phase) (walkOf mode p ws room .room)) (drop (walkOf mode p ws room .answer .taken) ws)
-  walk-to = walk-runs mode p ws room .to
-
-  -- nothing met: every word was taken
-  pub walk-all : isNothing (walkOf mode p ws room .answer .met) ≡ true → walkOf mode p ws room .answer .taken ≡ length ws
-  walk-all = walk-runs mode p ws room .all
-
 -- ---- places
 -- so many places were taken, and the phase is as it was
 pub record Passes (mode : ℕ) (p : Phase) (xs : List (List ℕ)) (room : List ℕ) (x : Walk) : Type 0 where
@@ -141,24 +126,3 @@ places-pass mode p (x ∷ xs) room =
     let vs = map (valueOf mode) (drop 1 x) in
     place-passes mode p x xs room (placeRoom met vs room) met (walkPlaces mode p xs room) refl refl
     (λ e. ap (λ (m : Met). placeRoom m vs room) e) (places-pass mode p xs room)
-
-module _ (mode : ℕ) (p : Phase) (xs : List (List ℕ)) (room : List ℕ) where
-  -- the number of places that a walk takes is `places-pass mode p xs room .count`
-  pub places-taken : (size : ℕ) → AllLong size xs → walkPlaces mode p xs room .answer .taken ≡ places-pass mode p xs room .count * size
-  places-taken = places-pass mode p xs room .taken
-
-  pub places-phase : walkPlaces mode p xs room .answer .phase ≡ p
-  places-phase = places-pass mode p xs room .phase
-
-  -- what is heard to the last place: the report, then what is heard of the places that are left
-  pub places-out : placesOut mode room xs
-      ≡ metHeard (walkPlaces mode p xs room .answer .met) (walkPlaces mode p xs room .room)
-      ++ placesOut mode (walkPlaces mode p xs room .room) (drop (places-pass mode p xs room .count) xs)
-  places-out = places-pass mode p xs room .out
-
-  pub places-to : placesTo mode room xs ≡ placesTo mode (walkPlaces mode p xs room .room) (drop (places-pass mode p xs room .count) xs)
-  places-to = places-pass mode p xs room .to
-
-  -- nothing met: every place was taken
-  pub places-all : isNothing (walkPlaces mode p xs room .answer .met) ≡ true → places-pass mode p xs room .count ≡ length xs
-  places-all = places-pass mode p xs room .all
