@@ -32,6 +32,7 @@ use Rattle.writer.proofs.Refusals.{CanAdd, can-add, count, count-variable}
 use Rattle.writer.proofs.Stays.{words-variable, words-fixed, part-laid, fixed-whole}
 use Rattle.writer.proofs.Pieces.{laid-ok, piece-laid, all-laid, some-left, fixed-once, as-long, as-before, as-behind}
 use Rattle.demands.specs.Sending.{Desk, valuesNow, pieceNow, joinedPieces}
+use Rattle.demands.proofs.BlockRun.{block-long}
 use Rattle.demands.proofs.DeskOk.{OpenNow, DeskOk}
 use Rattle.demands.proofs.Outcomes.{Varies, Fills}
 use Rattle.demands.proofs.DeskCalls.{joined-pieces-append}
@@ -154,16 +155,11 @@ module _ (system mode : ℕ) (d : Desk) (kind : ℕ) (vs : List ℕ) (ok : DeskO
       goes-on = λ e. omega (arith, goes-now e .1, lent-now .long);
     }
 
-    block-long : (us : List ℕ) → length (blockWords mode kind us) ≡ length us + 7
-    block-long us =
-        ap length (sym (variable-words us)) ∙ words-long (d .writer .settings .block) (d .writer .mode) kind us
-        ∙ count-variable (d .writer .settings .block) (length us) v
-
     whole-variable : adding (d .writer) (d .now .words) kind vs .answer ≡ Finished
         → joinedPieces (d .pieces ++ (pieceNow d kind vs ∷ [])) ≡ wordsIn (d .now .settings .block) mode kind (valuesNow d vs)
     whole-variable e =
         let us = valuesNow d vs in
-        words-now ∙ take-all (laidOf (d .writer .rest) + k) (blockWords mode kind us) (omega (arith, ends-now e, block-long us))
+        words-now ∙ take-all (laidOf (d .writer .rest) + k) (blockWords mode kind us) (omega (arith, ends-now e, block-long mode kind us))
         ∙ sym (words-variable (d .now .settings .block) mode kind us (ap isVariable (sym now-block) ∙ v))
 
   -- ---- a fixed line

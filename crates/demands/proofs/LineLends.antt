@@ -35,21 +35,12 @@ use Rattle.reader.proofs.Accepts.{by-place, accepts, refuses}
 use Rattle.reader.proofs.Ends.{Same, unfaulted, call-moves}
 use Rattle.demands.specs.Hearing.{Heard, is-end, heardOf, hear, Lends, last, more}
 use Rattle.demands.proofs.Run.{Now, now, metHeard, runTo, runOut, placesTo, placesOut}
+use Rattle.demands.proofs.PlaceRun.{drop-take}
 use Rattle.demands.proofs.LineRun.{leftOut, leftTo, blockPart, areaOut, areaTo, Hears, Refuses}
 use Rattle.demands.proofs.DeskOk.{AllLong}
 use Rattle.demands.proofs.WalkRun.{Runs, walk-runs, Passes, places-pass}
 
 -- ---- the words from a place on, and from a place further on
-drop-take : (k n : ℕ) (l : List ℕ) → drop k (take n l) ≡ take (n - k) (drop k l)
-drop-take zero n l = let e : n ≡ n - 0 = omega arith in ap (λ (j : ℕ). take j l) e
-drop-take (suc k) zero l = let e : 0 ≡ 0 - suc k = omega arith in ap (λ (j : ℕ). take j (drop (suc k) l)) e
-drop-take (suc k) (suc n) [] = none (suc n - suc k)
-  where
-    none : (j : ℕ) → [] ≡ take {A = ℕ} j []
-    none zero = refl
-    none (suc j) = refl
-drop-take (suc k) (suc n) (x ∷ l) = drop-take k n l ∙ (let e : n - k ≡ suc n - suc k = omega arith in ap (λ (j : ℕ). take j (drop k l)) e)
-
 drop-all : {A : Type 0} (n : ℕ) (l : List A) → n ≡ length l → drop n l ≡ []
 drop-all {A} n l e = ap {B = List A} (λ (k : ℕ). drop k l) e ∙ drop-length l
 

@@ -8,7 +8,7 @@ use native.Mathlib.Nat.{suc-mul}
 use native.Mathlib.Omega.{arith}
 use lib.Dec.{ltb}
 use lib.ListN.{length, getD, take, drop, replicate, length-append, length-drop, length-map}
-use lib.Seq.{take-at, drop-at, take-take, take-nil}
+use lib.Seq.{take-at, drop-at, take-take}
 use borrow.Author.Tests.{ltb-true}
 use Rattle.lists.specs.Tests.{pick}
 use Rattle.lists.proofs.Lists.{map-back}
@@ -139,17 +139,22 @@ places-of size n (suc m) (x ∷ xs) a e filler h =
     ∙ ap {B = List (List ℕ)} (λ (ys : List (List ℕ)). x ∷ ys) (places-of size n m xs (a .1) (omega arith) filler h)
 
 -- ---- words behind the last place count for nothing
-drop-take : (n k s : ℕ) (l : List ℕ) → s ≡ n + k → drop n (take s l) ≡ take k (drop n l)
-drop-take zero k s l e = let at : s ≡ k = omega arith in ap (λ (i : ℕ). take i l) at
-drop-take (suc n) k zero l e = absurd (omega arith)
-drop-take (suc n) k (suc s) [] e = sym (take-nil k)
-drop-take (suc n) k (suc s) (x ∷ l) e = drop-take n k s l (omega arith)
+pub drop-take : (k n : ℕ) (l : List ℕ) → drop k (take n l) ≡ take (n - k) (drop k l)
+drop-take zero n l = let e : n ≡ n - 0 = omega arith in ap (λ (j : ℕ). take j l) e
+drop-take (suc k) zero l = let e : 0 ≡ 0 - suc k = omega arith in ap (λ (j : ℕ). take j (drop (suc k) l)) e
+drop-take (suc k) (suc n) [] = none (suc n - suc k)
+  where
+    none : (j : ℕ) → [] ≡ take {A = ℕ} j []
+    none zero = refl
+    none (suc j) = refl
+drop-take (suc k) (suc n) (x ∷ l) = drop-take k n l ∙ (let e : n - k ≡ suc n - suc k = omega arith in ap (λ (j : ℕ). take j (drop k l)) e)
 
 pub places-cut : (size m : ℕ) (ws : List ℕ) → placesIn size m (take (m * size) ws) ≡ placesIn size m ws
 places-cut size zero ws = refl
 places-cut size (suc m) ws =
     let e : suc m * size ≡ m * size + size = suc-mul m size in
     let first : take size (take (suc m * size) ws) ≡ take size ws = take-take size (suc m * size) ws (omega arith) in
-    let rest : drop size (take (suc m * size) ws) ≡ take (m * size) (drop size ws) = drop-take size (m * size) (suc m * size) ws (omega arith) in
+    let left : suc m * size - size ≡ m * size = omega (arith, e) in
+    let rest : drop size (take (suc m * size) ws) ≡ take (m * size) (drop size ws) = drop-take size (suc m * size) ws ∙ ap (λ (k : ℕ). take k (drop size ws)) left in
     ap₂ {C = List (List ℕ)} (λ (x l : List ℕ). x ∷ placesIn size m l) first rest
     ∙ ap {B = List (List ℕ)} (λ (xs : List (List ℕ)). take size ws ∷ xs) (places-cut size m (drop size ws))
