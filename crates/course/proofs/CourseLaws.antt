@@ -10,7 +10,6 @@ use borrow.Author.Tests.{eqb-true, eqb-false, eq-eqb, ne-eqb, le-ltb, ltb-false,
 use Rattle.lists.specs.Tests.{pick}
 use Rattle.lists.proofs.Tests.{true-false, or-false, false-or, pick-false}
 use Rattle.line.specs.declared.settings.Settings.{Settings}
-use Rattle.line.specs.declared.systems.System.{System}
 use Rattle.line.specs.declared.fixed.Fixed.{Fixed}
 use Rattle.line.specs.Systems.{systemOf, isSystem}
 use Rattle.line.specs.Fixed.{isVariable, fixedOf, placesOf, sizeOf, fillsAll, blockRefused}
@@ -23,49 +22,44 @@ use Rattle.course.specs.declared.Last.the-variants.{Unknown, Number}
 use Rattle.course.specs.declared.Place.{Place}
 use Rattle.course.specs.declared.Place.the-variants.{Shut, At}
 use Rattle.course.specs.Course.{isAt, placeOf, blocksEnd, offGrid, misplaced, impossibleAfter}
-use Rattle.course.specs.Looks.{endBy, misplacedBy, impossibleBy}
+use Rattle.course.specs.Looks.{misplacedBy}
 
 -- ---- the rules by what was found of the settings
-found-end : (p block flag : ℕ) → endBy (isVariable block) p flag (fixedOf block) ≡ blocksEnd p block flag
+pub end-found : (p block flag : ℕ) (row : Fixed) → row ≡ fixedOf block
+    → pick (isVariable block) (areaLength p flag) (pick (eqb p 1440) (row .at270) (row .at360) * row .size) ≡ blocksEnd p block flag
 unfolding blocksEnd placesOf sizeOf
-found-end p block flag = refl
+end-found p block flag row hr = ap (λ (x : Fixed). pick (isVariable block) (areaLength p flag) (pick (eqb p 1440) (x .at270) (x .at360) * x .size)) hr
 
 pub found-misplaced : (p block flag : ℕ) (place : Place) → misplacedBy (isVariable block) (blocksEnd p block flag) (sizeOf block) place ≡ misplaced p block flag place
 unfolding offGrid
 found-misplaced p block flag Shut = refl
 found-misplaced p block flag (At q) = refl
 
-found-impossible : (system : ℕ) (last : Last) (t : Settings) (place : Place) (busy : Bool)
-    → impossibleBy (systemOf system .lines) last place busy (settingsFault system t) (misplaced (systemOf system .payload) (t .block) (t .flag) place) (isVariable (t .block))
-    ≡ impossibleAfter system last t place busy
-found-impossible system Unknown t place busy = refl
-found-impossible system (Number x) t place busy = refl
+-- a place is misplaced by what was found exactly where it is misplaced
+pub off-found : (p block flag : ℕ) (place : Place) (row : Fixed) (v : Bool) (end : ℕ) → row ≡ fixedOf block → isVariable block ≡ v → end ≡ blocksEnd p block flag
+    → misplacedBy v end (row .size) place ≡ misplaced p block flag place
+unfolding sizeOf
+off-found p block flag place row v end hr hv he =
+    ap₂ (λ (b : Bool) (n : ℕ). misplacedBy b n (row .size) place) (sym hv) he
+    ∙ ap (λ (x : Fixed). misplacedBy (isVariable block) (blocksEnd p block flag) (x .size) place) hr
+    ∙ found-misplaced p block flag place
 
--- where blocks end, from the row that was looked up
-pub end-found : (p block flag : ℕ) (row : Fixed) (v : Bool) → row ≡ fixedOf block → v ≡ isVariable block → endBy v p flag row ≡ blocksEnd p block flag
-end-found p block flag row v hr hv =
-    ap₂ (λ (b : Bool) (x : Fixed). endBy b p flag x) hv hr ∙ found-end p block flag
+-- with a good number and good settings: a variable line asks the place alone, a fixed one also that no block is open
+asked-by : (n f m v busy : Bool) → n ≡ false → f ≡ false → (n || (f || (m || (busy && not v)))) ≡ pick v m (m || busy)
+unfolding pick
+asked-by true f m v busy hn hf = absurd (true-false hn)
+asked-by false true m v busy hn hf = absurd (true-false hf)
+asked-by false false true true busy hn hf = refl
+asked-by false false true false busy hn hf = refl
+asked-by false false false true true hn hf = refl
+asked-by false false false true false hn hf = refl
+asked-by false false false false true hn hf = refl
+asked-by false false false false false hn hf = refl
 
--- what one look at the table finds
-module _ (system : ℕ) (last : Last) (t : Settings) (place : Place) (busy : Bool) (s : System) (row : Fixed) (v : Bool) (end : ℕ) (is : s ≡ systemOf system)
-    (hr : row ≡ fixedOf (t .block)) (hv : v ≡ isVariable (t .block)) (he : end ≡ endBy v (s .payload) (t .flag) row) where
-  pub look-end : end ≡ blocksEnd (systemOf system .payload) (t .block) (t .flag)
-  look-end = he ∙ end-found (s .payload) (t .block) (t .flag) row v hr hv ∙ ap (λ (x : System). blocksEnd (x .payload) (t .block) (t .flag)) is
-
-  look-off : (off : Bool) → off ≡ misplacedBy v end (row .size) place → off ≡ misplaced (systemOf system .payload) (t .block) (t .flag) place
-  unfolding sizeOf
-  look-off off e =
-      e
-      ∙ ap₂ (λ (b : Bool) (n : ℕ). misplacedBy b n (row .size) place) hv look-end
-      ∙ ap (λ (x : Fixed). misplacedBy (isVariable (t .block)) (blocksEnd (systemOf system .payload) (t .block) (t .flag)) (x .size) place) hr
-      ∙ found-misplaced (systemOf system .payload) (t .block) (t .flag) place
-
-  pub look-impossible : (off : Bool) (fault : ℕ) → off ≡ misplacedBy v end (row .size) place → fault ≡ settingsFault system t
-      → impossibleBy (s .lines) last place busy fault off v ≡ impossibleAfter system last t place busy
-  look-impossible off fault ho hf =
-      ap₂ (λ (x : System) (n : ℕ). impossibleBy (x .lines) last place busy n off v) is hf
-      ∙ ap₂ (λ (o b : Bool). impossibleBy (systemOf system .lines) last place busy (settingsFault system t) o b) (look-off off ho) hv
-      ∙ found-impossible system last t place busy
+pub asked-after : (system x : ℕ) (t : Settings) (place : Place) (busy : Bool) → not (leb 1 x && leb x (systemOf system .lines)) ≡ false → settingsFault system t ≡ 0
+    → impossibleAfter system (Number x) t place busy
+    ≡ pick (isVariable (t .block)) (misplaced (systemOf system .payload) (t .block) (t .flag) place) (misplaced (systemOf system .payload) (t .block) (t .flag) place || busy)
+asked-after system x t place busy hn hf = asked-by _ _ (misplaced (systemOf system .payload) (t .block) (t .flag) place) (isVariable (t .block)) busy hn (ap not (eq-eqb _ _ hf))
 
 -- ---- on the grid or not
 on-grid : (block q : ℕ) → offGrid block q ≡ false → q % sizeOf block ≡ 0

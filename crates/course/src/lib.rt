@@ -4,9 +4,10 @@ use line::fixed::Fixed;
 use line::settings::Settings;
 ghost use mathlib.Core.Path.{_≡_};
 ghost use Rattle.line.specs.Systems.{systemOf};
-ghost use Rattle.line.specs.Fixed.{sizeOf};
+ghost use Rattle.line.specs.Fixed.{fixedOf, sizeOf};
+ghost use Rattle.course.specs.declared.Last.the-variants.{Number};
 ghost use Rattle.course.specs.Course.{nextNumber, isAt, placeOf, blocksEnd, misplaced, impossibleAfter};
-ghost use Rattle.course.specs.Looks.{endBy, offBy, misplacedBy, impossibleBy};
+ghost use Rattle.course.specs.Looks.{offBy, misplacedBy};
 
 // The last accepted line number (the writer's: last opened), or none.
 pub enum Last {
@@ -17,7 +18,7 @@ pub enum Last {
 // The place in the area of the begun (open) line, or none begun.
 pub enum Place {
     Shut,
-    At(u16),
+    At(usize),
 }
 
 // The number after x: the number after N is 1.
@@ -43,15 +44,16 @@ pub fn place_of(place: Place) -> usize
 {
     match place {
         Place::Shut => 0,
-        Place::At(p) => p as usize,
+        Place::At(p) => p,
     }
 }
 
 // The words of an area in which blocks stand, by the table's row of the block type.
-fn end_by(variable: bool, payload: usize, flag: u8, row: Fixed) -> usize
-    ensures { λ r. ⌜ r ≡ endBy variable payload flag row ⌝ }
+fn end_by(payload: usize, block: u8, flag: u8, row: Fixed) -> usize
+    requires { ⌜ row ≡ fixedOf block ⌝ }
+    ensures { λ r. ⌜ r ≡ blocksEnd payload block flag ⌝ }
 {
-    if variable {
+    if line::fixed::is_variable(block) {
         return line::layout::area_length(payload, flag);
     }
     line::fixed::places_in(payload, row) as usize * row.size as usize
@@ -62,17 +64,17 @@ pub fn blocks_end(payload: usize, block: u8, flag: u8) -> usize
     ensures { λ r. ⌜ r ≡ blocksEnd payload block flag ⌝ }
 {
     let row = line::fixed::fixed_of(block);
-    end_by(line::fixed::is_variable(block), payload, flag, row)
+    end_by(payload, block, flag, row)
 }
 
 // Not where a place of that size starts or the last ends.
-fn is_off(size: u16, q: u16) -> bool
+fn is_off(size: u16, q: usize) -> bool
     ensures { λ r. ⌜ r ≡ offBy size q ⌝ }
 {
     if size == 0 {
         return true;
     }
-    q % size != 0
+    q % size as usize != 0
 }
 
 // The place is beyond the end, or in a fixed line not where a place starts or the last ends.
@@ -82,8 +84,13 @@ fn misplaced_by(variable: bool, end: usize, size: u16, place: Place) -> bool
     match place {
         Place::Shut => false,
         Place::At(q) => {
-            let off = is_off(size, q);
-            (end < q as usize) | (!variable & off)
+            if end < q {
+                return true;
+            }
+            if variable {
+                return false;
+            }
+            is_off(size, q)
         }
     }
 }
@@ -97,32 +104,51 @@ pub fn is_misplaced(payload: usize, block: u8, flag: u8, place: Place) -> bool
     misplaced_by(line::fixed::is_variable(block), end, size, place)
 }
 
-// The part of the impossible rule that a writer and a reader share, by what the settings and the place were found to be.
-fn impossible_by(
-    lines: u16,
-    last: Last,
-    place: Place,
-    busy: bool,
-    fault: u8,
-    off: bool,
-    variable: bool,
-) -> bool
-    ensures { λ r. ⌜ r ≡ impossibleBy lines last place busy fault off variable ⌝ }
-{
-    match last {
-        Last::Unknown => busy | is_at(place),
-        Last::Number(x) => {
-            let number = !((1 <= x) & (x <= lines));
-            number | ((fault != 0) | (off | (busy & !variable)))
-        }
-    }
-}
-
 // What a call asks of the table of fixed blocks: it is looked up once a call, because a call of a fixed line moves few words.
 pub struct Looked {
     pub impossible: bool,
     pub end: usize,
     pub size: u16,
+}
+
+// Whether the course is impossible, where blocks end in its line, and the size of a fixed block; by the table's row of the block type.
+fn looked_by(system: u8, t: Settings, row: Fixed, impossible: bool) -> Looked
+    requires { ⌜ row ≡ fixedOf (t .block) ⌝ }
+    ensures { λ r. ⌜ (r .impossible ≡ impossible)
+        × (r .end ≡ blocksEnd (systemOf system .payload) (t .block) (t .flag))
+        × (r .size ≡ sizeOf (t .block)) ⌝ }
+{
+    let s = line::systems::system_of(system);
+    let end = end_by(s.payload, t.block, t.flag, row);
+    Looked {
+        impossible: impossible,
+        end: end,
+        size: row.size,
+    }
+}
+
+// With a last number. Each test leaves, and variable lines leave before fixed ones, so that a good course is asked each thing once.
+fn look_after(system: u8, x: u16, t: Settings, place: Place, busy: bool) -> Looked
+    ensures { λ r. ⌜ (r .impossible ≡ impossibleAfter system (Number x) t place busy)
+        × (r .end ≡ blocksEnd (systemOf system .payload) (t .block) (t .flag))
+        × (r .size ≡ sizeOf (t .block)) ⌝ }
+{
+    let s = line::systems::system_of(system);
+    let found = line::settings::find_fault(system, t);
+    let row = found.row;
+    if found.fault != 0 {
+        return looked_by(system, t, row, true);
+    }
+    if !((1 <= x) & (x <= s.lines)) {
+        return looked_by(system, t, row, true);
+    }
+    let end = end_by(s.payload, t.block, t.flag, row);
+    if line::fixed::is_variable(t.block) {
+        let beyond = misplaced_by(true, end, row.size, place);
+        return looked_by(system, t, row, beyond);
+    }
+    let off = misplaced_by(false, end, row.size, place);
+    looked_by(system, t, row, off | busy)
 }
 
 // Whether the course is impossible, where blocks end in its line, and the size of a fixed block; busy: an unfinished block, or an
@@ -132,16 +158,12 @@ pub fn look(system: u8, last: Last, t: Settings, place: Place, busy: bool) -> Lo
         × (r .end ≡ blocksEnd (systemOf system .payload) (t .block) (t .flag))
         × (r .size ≡ sizeOf (t .block)) ⌝ }
 {
-    let s = line::systems::system_of(system);
-    let row = line::fixed::fixed_of(t.block);
-    let variable = line::fixed::is_variable(t.block);
-    let end = end_by(variable, s.payload, t.flag, row);
-    let off = misplaced_by(variable, end, row.size, place);
-    let fault = line::settings::settings_fault(system, t);
-    Looked {
-        impossible: impossible_by(s.lines, last, place, busy, fault, off, variable),
-        end: end,
-        size: row.size,
+    match last {
+        Last::Unknown => {
+            let row = line::fixed::fixed_of(t.block);
+            looked_by(system, t, row, busy | is_at(place))
+        }
+        Last::Number(x) => look_after(system, x, t, place, busy),
     }
 }
 

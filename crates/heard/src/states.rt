@@ -23,7 +23,7 @@ pub(crate) fn place_of(ns: &[u32]) -> Place {
     if steps::at(ns, 0) == 0 {
         return Place::Shut;
     }
-    Place::At(steps::word_at(ns, 1))
+    Place::At(steps::at(ns, 1) as usize)
 }
 
 // `phase NUMBER TYPE`, with announced and collected for data. Count bytes are 1, 2 and 3.

@@ -106,12 +106,24 @@ pub fn is_variable(block: u8) -> bool
     block == 0xc1
 }
 
-// Block type not listed, none at this rate, or refused with flag 01h.
-pub fn block_refused(payload: usize, block: u8, flag: u8) -> bool
+// Block type not listed, none at this rate, or refused with flag 01h; by the table's row of the block type. Each test leaves, so that a
+// good block type is asked little.
+pub(crate) fn block_refused(payload: usize, row: Fixed, block: u8, flag: u8) -> bool
+    requires { ⌜ row ≡ fixedOf block ⌝ }
     ensures { λ r. ⌜ r ≡ blockRefused payload block flag ⌝ }
 {
-    let places = places_of(payload, block) as usize;
-    let size = size_of(block) as usize;
-    let refused = (128 <= block) | ((places == 0) | ((flag == 1) & (places * size == payload)));
-    !is_variable(block) & refused
+    if is_variable(block) {
+        return false;
+    }
+    if 128 <= block {
+        return true;
+    }
+    let places = places_in(payload, row) as usize;
+    if places == 0 {
+        return true;
+    }
+    if flag != 1 {
+        return false;
+    }
+    places * row.size as usize == payload
 }

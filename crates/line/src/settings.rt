@@ -1,9 +1,11 @@
 // The settings of a line, as byte values, and their faults.
 use crate::fixed;
+use crate::fixed::Fixed;
 use crate::systems;
 ghost use mathlib.Core.Path.{_≡_};
 ghost use lib.Dec.{eqb};
 ghost use Rattle.lists.specs.Lists.{each};
+ghost use Rattle.line.specs.Fixed.{fixedOf};
 ghost use Rattle.line.specs.Settings.{noSettings, Held, settingsFault, sameSettings};
 
 pub struct Settings {
@@ -68,16 +70,57 @@ fn all_zero(s: &[u8]) -> bool
     ok
 }
 
-// The lowest of 10 to 14 that holds of the settings, or 0: from the last condition to the first.
-pub fn settings_fault(system: u8, settings: Settings) -> u8
+// Each reserved word is 0.
+fn is_unreserved(settings: Settings) -> bool
+    ensures { λ r. ⌜ r ≡ each (eqb 0) (settings .reserved) ⌝ }
+{
+    let reserved = settings.reserved;
+    all_zero(&reserved)
+}
+
+// The lowest of 10 to 14 that holds of the settings, or 0; by the table's row of the block type.
+fn fault_by(system: u8, row: Fixed, settings: Settings) -> u8
+    requires { ⌜ row ≡ fixedOf (settings .block) ⌝ }
     ensures { λ r. ⌜ r ≡ settingsFault system settings ⌝ }
 {
     let s = systems::system_of(system);
-    let block = fixed::block_refused(s.payload, settings.block, settings.flag);
-    let reserved = settings.reserved;
-    let r14 = lists::or_else(!all_zero(&reserved), 14, 0);
-    let r13 = lists::or_else(1 < settings.flag, 13, r14);
-    let r12 = lists::or_else(block, 12, r13);
-    let r11 = lists::or_else(1 < settings.aai, 11, r12);
-    lists::or_else(settings.code != s.code, 10, r11)
+    if settings.code != s.code {
+        return 10;
+    }
+    if 1 < settings.aai {
+        return 11;
+    }
+    if fixed::block_refused(s.payload, row, settings.block, settings.flag) {
+        return 12;
+    }
+    if 1 < settings.flag {
+        return 13;
+    }
+    lists::or_else(!is_unreserved(settings), 14, 0)
+}
+
+// What is found of settings: the lowest of 10 to 14 that holds, or 0, and the table's row of the block type.
+pub struct Found {
+    pub fault: u8,
+    pub row: Fixed,
+}
+
+// The table is looked up once, because a call of a fixed line asks for both and moves few words.
+pub fn find_fault(system: u8, settings: Settings) -> Found
+    ensures { λ r. ⌜ (r .fault ≡ settingsFault system settings) × (r .row ≡ fixedOf (settings .block)) ⌝ }
+{
+    let row = fixed::fixed_of(settings.block);
+    let fault = fault_by(system, row, settings);
+    Found {
+        fault: fault,
+        row: row,
+    }
+}
+
+// The lowest of 10 to 14 that holds of the settings, or 0.
+pub fn settings_fault(system: u8, settings: Settings) -> u8
+    ensures { λ r. ⌜ r ≡ settingsFault system settings ⌝ }
+{
+    let x = find_fault(system, settings);
+    x.fault
 }

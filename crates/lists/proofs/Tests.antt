@@ -167,6 +167,13 @@ low-step n {b} {d} {cs} {x} {r} e f g = record { is = e ∙ ap₂ (λ (c : Bool)
     step true = refl
     step false = refl
 
+-- the first condition holds; or it doesn't, and x is the lowest of those behind it
+pub low-hit : (n : ℕ) {b : Bool} {cs : List Bool} → b ≡ true → Lowest n (b ∷ cs) n
+low-hit n {b} {cs} e = record { is = sym (ap (λ (c : Bool). lowest n (c ∷ cs)) e) }
+
+pub low-miss : (n : ℕ) {b : Bool} {cs : List Bool} {x : ℕ} → b ≡ false → Lowest (suc n) cs x → Lowest n (b ∷ cs) x
+low-miss n {b} {cs} e g = record { is = g .is ∙ sym (ap (λ (c : Bool). lowest n (c ∷ cs)) e) }
+
 -- ---- a number that no condition has
 pub lowest-or : (n : ℕ) (cs : List Bool) → (lowest n cs ≡ 0) ⊎ (n ≤ lowest n cs)
 lowest-or n [] = inl refl

@@ -64,6 +64,20 @@ module _ (mode : ℕ) (p : Phase) (size : ℕ) (one : 1 ≤ size) where
       ap (λ (met : Met). at-place room on met (length x) (drop 1 x)) (ap₂ metAt (getD-take size ws 0 0 one) rest)
       ∙ ap₂ (at-place room on (metAt (getD ws 0 0) (size - 1))) long (drop-take-one size ws one)
 
+  -- the place in front reports something
+  pub front-stops : (ws room r : List ℕ) (met : Met) → size ≤ length ws → met ≡ metAt (getD ws 0 0) (size - 1) → isNothing met ≡ false
+      → r ≡ placeRoom met (map (valueOf mode) (take (size - 1) (drop 1 ws))) room → after p met size r ≡ walkPlaces mode p (placesIn size (length ws / size) ws) room
+  front-stops ws room r met h is e laid =
+      let n = (length ws - size) / size in
+      let on = walkPlaces mode p (placesIn size n (drop size ws)) room in
+      let count : length ws / size ≡ suc n = div-eq-sub-div one h ∙ add-one n in
+      ap (after p met size) laid
+      ∙ sym
+      (ap (λ (k : ℕ). walkPlaces mode p (placesIn size k ws) room) count
+      ∙ first-place n ws room h
+      ∙ ap (λ (x : Met). at-place room on x size (take (size - 1) (drop 1 ws))) (sym is)
+      ∙ stops met _ _ e)
+
   -- the place at i, which reports met; m places are left with it, and n after it
   module _ (m n i : ℕ) (ws room : List ℕ) (met : Met) (left : m ≡ suc n) (fits : i + size ≤ length ws) (is : met ≡ metAt (getD ws i 0) (size - 1)) (whole : Walk)
       (inv : past i (walkPlaces mode p (placesIn size m (drop i ws)) room) ≡ whole) where
@@ -105,6 +119,9 @@ one-left size i long one fits =
 
 pub none-left : (size i long : ℕ) → long - i < size → (long - i) / size ≡ 0
 none-left size i long h = div-eq-of-lt h
+
+pub front-fit : (size long : ℕ) (ws : List ℕ) → size ≤ long → length (take (size - 1) (drop 1 ws)) ≤ long
+front-fit size long ws h = rw (length-take (size - 1) (drop 1 ws)) (omega arith)
 
 pub values-fit : (size i long : ℕ) (ws : List ℕ) → size ≤ long → length (take (i + size - (i + 1)) (drop (i + 1) ws)) ≤ long
 values-fit size i long ws h = rw (length-take (i + size - (i + 1)) (drop (i + 1) ws)) (omega arith)

@@ -1,7 +1,7 @@
 -- Laws of a reading call: what is lent to the walk, and what the call then tells.
 -- Assumes nothing.
 use mathlib.Core.Path.{_≡_, refl, sym, ap, ap₂, _∙_}
-use mathlib.Core.Bool.{true, false}
+use mathlib.Core.Bool.{true, false, _&&_, not}
 use mathlib.Core.List.{List}
 use Prim.Native.Nat.{ℕ, _+_, _-_, _*_, _/_, _≤_}
 use native.Mathlib.Omega.{arith}
@@ -9,7 +9,7 @@ use lib.Dec.{eqb}
 use lib.ListN.{length, take, drop}
 use borrow.Author.Tests.{eqb-true, ne-eqb, not-false}
 use Rattle.lists.specs.Tests.{pick}
-use Rattle.lists.proofs.Tests.{both-true, pick-false}
+use Rattle.lists.proofs.Tests.{both-true, pick-true, pick-false}
 use Rattle.line.specs.declared.systems.System.{System}
 use Rattle.line.specs.Systems.{systemOf, isSystem}
 use Rattle.line.specs.Fixed.{isVariable, placesOf, sizeOf}
@@ -22,6 +22,7 @@ use Rattle.course.specs.declared.Place.the-variants.{At}
 use Rattle.course.specs.Course.{blocksEnd}
 use Rattle.course.proofs.CourseLaws.{end-in-area, placed-end, grid-left, grid-some, grid-count, whole-small}
 use Rattle.reader.specs.declared.state.Reader.{Reader}
+use Rattle.reader.specs.State.{capacity, impossible}
 use Rattle.reader.specs.Reading.{call, wordsFrom, walkFrom, readFault, readFrom, reading}
 use Rattle.reader.specs.declared.state.Event.the-variants.{Refused}
 use Rattle.reader.proofs.Ready.{Ready, at-q, in-end, words-long}
@@ -95,6 +96,20 @@ module _ (st : Reader) (q : ℕ) (line room : List ℕ) (at : st .place ≡ At q
       let area = end-in-area (st .system) (st .settings) known (eqb-true _ 0 (not-false _ (b .clean))) in
       let end = placed-end p (st .settings .block) (st .settings .flag) (q + walkFrom st q line room .answer .taken) (g .placed) in
       omega (arith, end, area, area-most p (st .settings .flag), payload-most (st .system))
+
+-- ---- which of 1 and 2 the tests give
+module _ (st : Reader) (long room : ℕ) where
+  pub fault-1 : (fitsLength (st .system) (st .mode) long && eqb room capacity) ≡ false → 1 ≡ readFault st long room
+  unfolding readFault
+  fault-1 e = sym (pick-true _ _ (ap not e))
+
+  pub fault-2 : (fitsLength (st .system) (st .mode) long && eqb room capacity) ≡ true → impossible st ≡ true → 2 ≡ readFault st long room
+  unfolding readFault
+  fault-2 e f = sym (pick-false _ _ (ap not e) ∙ pick-true _ _ f)
+
+  pub fault-0 : (fitsLength (st .system) (st .mode) long && eqb room capacity) ≡ true → impossible st ≡ false → 0 ≡ readFault st long room
+  unfolding readFault
+  fault-0 e f = sym (pick-false _ _ (ap not e) ∙ pick-false _ _ f)
 
 -- ---- what the call tells
 module _ (st : Reader) (line room : List ℕ) (fault : ℕ) (is : fault ≡ readFault st (length line) (length room)) where

@@ -52,13 +52,7 @@ fn put_place(mode: u8, met: Met, words: &[u16], room: &mut [u16])
 }
 
 // The walk over places of that size, as long as a whole one is left. It counts no places, so that no call divides.
-pub(crate) fn walk_places(
-    mode: u8,
-    phase: Phase,
-    size: usize,
-    words: &[u16],
-    room: &mut [u16],
-) -> Walked
+fn walk_all(mode: u8, phase: Phase, size: usize, words: &[u16], room: &mut [u16]) -> Walked
     requires { ⌜ (1 ≤ size) × (size ≤ length (now room)) ⌝ }
     ensures { λ r. ⌜ leaves r (now (room .exit))
         ≡ walkPlaces mode phase (placesIn size (length (now (words .entry)) / size) (now (words .entry))) (now (room .entry)) ⌝ }
@@ -81,5 +75,32 @@ pub(crate) fn walk_places(
         phase: phase,
         met: Met::Nothing,
         taken: i,
+    }
+}
+
+// The same walk. The place in front is asked before the loop, because most calls end with it.
+pub(crate) fn walk_places(
+    mode: u8,
+    phase: Phase,
+    size: usize,
+    words: &[u16],
+    room: &mut [u16],
+) -> Walked
+    requires { ⌜ (1 ≤ size) × (size ≤ length (now room)) ⌝ }
+    ensures { λ r. ⌜ leaves r (now (room .exit))
+        ≡ walkPlaces mode phase (placesIn size (length (now (words .entry)) / size) (now (words .entry))) (now (room .entry)) ⌝ }
+{
+    if words.len() < size {
+        return walk_all(mode, phase, size, words, room);
+    }
+    let met = met_at(words[0], size - 1);
+    if walk::is_nothing(met) {
+        return walk_all(mode, phase, size, words, room);
+    }
+    put_place(mode, met, &words[1..size], room);
+    Walked {
+        phase: phase,
+        met: met,
+        taken: size,
     }
 }

@@ -25,36 +25,54 @@ ghost use Rattle.course.specs.declared.Place.the-variants.{At};
 ghost use Rattle.reader.specs.Walk.{leaves};
 ghost use Rattle.reader.specs.Reading.{call, becomes, walkFrom, toldBy, goesFrom, readFault, reading};
 
-// What a call asks before it reads: the lower of 1 and 2 that holds, or 0; where blocks end in the line; and the size of a fixed block.
+// What a call asks before it reads: the lower of 1 and 2 that holds, or 0; and then where blocks end in the line, and the size of a fixed
+// block.
 struct Asked {
     fault: u8,
     end: usize,
     size: u16,
 }
 
-// The table of fixed blocks is looked up once a call.
+// A call that 1 or 2 refuses reads nothing.
+fn barred(fault: u8) -> Asked
+    ensures { λ r. ⌜ r .fault ≡ fault ⌝ }
+{
+    Asked {
+        fault: fault,
+        end: 0,
+        size: 0,
+    }
+}
+
+// Each test leaves, and the table of fixed blocks is looked up once, because a call of a fixed line moves few words.
 fn ask(st: Reader, long: usize, room: usize) -> Asked
     ensures { λ r. ⌜ (r .fault ≡ readFault st long room)
-        × (r .end ≡ blocksEnd (systemOf (st .system) .payload) (st .settings .block) (st .settings .flag))
-        × (r .size ≡ sizeOf (st .settings .block)) ⌝ }
+        × (r .fault ≡ 0 → (r .end ≡ blocksEnd (systemOf (st .system) .payload) (st .settings .block) (st .settings .flag))
+        × (r .size ≡ sizeOf (st .settings .block))) ⌝ }
 {
     let last = st.last;
     let settings = st.settings;
     let place = st.place;
     let phase = st.phase;
+    if !(check::is_fit(st.system, st.mode, long) & (room == 16384)) {
+        return barred(1);
+    }
     let x = course::look(st.system, last, settings, place, machine::is_busy(phase));
-    let r2 = lists::or_else(x.impossible | machine::is_misphased(16384, phase), 2, 0);
-    let fits = check::is_fit(st.system, st.mode, long) & (room == 16384);
-    let fault = lists::or_else(!fits, 1, r2);
+    if x.impossible {
+        return barred(2);
+    }
+    if machine::is_misphased(16384, phase) {
+        return barred(2);
+    }
     Asked {
-        fault: fault,
+        fault: 0,
         end: x.end,
         size: x.size,
     }
 }
 
 // The walk from place q to the end of the words in which blocks stand.
-fn walk_from(st: Reader, end: usize, size: u16, q: u16, line: &[u16], room: &mut [u16]) -> Walked
+fn walk_from(st: Reader, end: usize, size: u16, q: usize, line: &[u16], room: &mut [u16]) -> Walked
     requires { ⌜ (st .place ≡ At q) × (readFault st (length (now line)) (length (now room)) ≡ 0)
         × (end ≡ blocksEnd (systemOf (st .system) .payload) (st .settings .block) (st .settings .flag)) × (size ≡ sizeOf (st .settings .block)) ⌝ }
     ensures { λ r. ⌜ leaves r (now (room .exit)) ≡ walkFrom st q (now (line .entry)) (now (room .entry)) ⌝ }
@@ -64,7 +82,7 @@ fn walk_from(st: Reader, end: usize, size: u16, q: u16, line: &[u16], room: &mut
     let phase = st.phase;
     let a = s.length - s.payload;
     let e = a + end;
-    let i = a + q as usize;
+    let i = a + q;
     if fixed::is_variable(settings.block) {
         return walk::walk(st.mode, phase, &line[i..e], room);
     }
@@ -88,7 +106,7 @@ fn moved(st: Reader, place: Place, phase: Phase) -> Reader
 }
 
 // What the call tells of what was met, the place being q afterwards.
-fn tell(st: Reader, q: u16, phase: Phase, met: Met) -> Told
+fn tell(st: Reader, q: usize, phase: Phase, met: Met) -> Told
     ensures { λ r. ⌜ r ≡ toldBy st q phase met ⌝ }
 {
     match met {
@@ -111,7 +129,7 @@ fn tell(st: Reader, q: u16, phase: Phase, met: Met) -> Told
 }
 
 // Goes on from place q.
-fn read_on(st: Reader, end: usize, size: u16, q: u16, line: &[u16], room: &mut [u16]) -> Told
+fn read_on(st: Reader, end: usize, size: u16, q: usize, line: &[u16], room: &mut [u16]) -> Told
     requires { ⌜ (st .place ≡ At q) × (readFault st (length (now line)) (length (now room)) ≡ 0)
         × (end ≡ blocksEnd (systemOf (st .system) .payload) (st .settings .block) (st .settings .flag)) × (size ≡ sizeOf (st .settings .block)) ⌝ }
     ensures { λ r. ⌜ call r (now (room .exit)) ≡ goesFrom st q (walkFrom st q (now (line .entry)) (now (room .entry))) ⌝ }
@@ -119,8 +137,7 @@ fn read_on(st: Reader, end: usize, size: u16, q: u16, line: &[u16], room: &mut [
     let x = walk_from(st, end, size, q, line, room);
     let phase = x.phase;
     let met = x.met;
-    let next = q as usize + x.taken;
-    tell(st, next as u16, phase, met)
+    tell(st, q + x.taken, phase, met)
 }
 
 // A reading call.

@@ -63,7 +63,7 @@ pub(crate) fn is_full(end: usize, place: Place) -> bool
 {
     match place {
         Place::Shut => false,
-        Place::At(p) => end <= p as usize,
+        Place::At(p) => end <= p,
     }
 }
 
@@ -81,7 +81,7 @@ fn is_other(rest: Rest, kind: u16, n: usize) -> bool
     }
 }
 
-// The lowest number whose condition holds, or 0: from the last condition to the first.
+// The lowest number whose condition holds, or 0. Each test leaves, because a block of a fixed line has few words.
 fn add_fault(w: Writer, long: usize, kind: u16, values: &[u16]) -> u8
     ensures { λ r. ⌜ r ≡ addFault w long kind (now (values .entry)) ⌝ }
 {
@@ -90,17 +90,23 @@ fn add_fault(w: Writer, long: usize, kind: u16, values: &[u16]) -> u8
     let place = w.place;
     let rest = w.rest;
     let n = values.len();
+    if !check::is_fit(w.system, w.mode, long) {
+        return 1;
+    }
     let x = course::look(w.system, last, settings, place, state::is_part(rest));
-    let r20 = lists::or_else(!course::is_at(place) | is_other(rest, kind, n), 20, 0);
-    let r19 = lists::or_else(is_full(x.end, place), 19, r20);
-    let r18 = lists::or_else(
-        is_ill_shaped(place, settings.block, x.size, kind, n),
-        18,
-        r19,
-    );
-    let r17 = lists::or_else(!is_valued(w.mode, values), 17, r18);
-    let r2 = lists::or_else(x.impossible | state::is_misshapen(rest), 2, r17);
-    lists::or_else(!check::is_fit(w.system, w.mode, long), 1, r2)
+    if x.impossible | state::is_misshapen(rest) {
+        return 2;
+    }
+    if !is_valued(w.mode, values) {
+        return 17;
+    }
+    if is_ill_shaped(place, settings.block, x.size, kind, n) {
+        return 18;
+    }
+    if is_full(x.end, place) {
+        return 19;
+    }
+    lists::or_else(!course::is_at(place) | is_other(rest, kind, n), 20, 0)
 }
 
 // What is unfinished after k of the left words.
@@ -148,7 +154,7 @@ fn lay_place(w: Writer, kind: u16, values: &[u16], line: &mut [u16]) -> Addition
         mode: w.mode,
         last: last,
         settings: settings,
-        place: Place::At((place + k) as u16),
+        place: Place::At(place + k),
         rest: Rest::Whole,
     };
     Addition {
@@ -180,7 +186,7 @@ fn lay_part(w: Writer, kind: u16, values: &[u16], line: &mut [u16]) -> Addition
         mode: w.mode,
         last: last,
         settings: settings,
-        place: Place::At((place + k) as u16),
+        place: Place::At(place + k),
         rest: after,
     };
     Addition {

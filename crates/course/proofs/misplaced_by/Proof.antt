@@ -1,7 +1,26 @@
 -- `course::misplaced_by` meets its contract. Assumes nothing.
+use mathlib.Core.Path.{_≡_, refl, sym, ap, ap₂, _∙_}
+use mathlib.Core.Bool.{Bool, true, false, _&&_, _||_, not}
+use Prim.Native.Nat.{ℕ, _≤_, _<_}
+use borrow.Author.Tests.{lt-ltb, le-ltb}
+use Rattle.course.specs.declared.Place.{Place}
+use Rattle.course.specs.declared.Place.the-variants.{At}
+use Rattle.course.specs.Looks.{offBy, misplacedBy}
 use borrow.Author.Needs.{needs}
 use Rattle.course.proofs.misplaced_by.Statement.{statement}
 use Rattle.course.proofs.misplaced_by.Tie as tie
+
+beyond : (v : Bool) (end size q : ℕ) → end < q → misplacedBy v end size (At q) ≡ true
+beyond v end size q h = ap (λ (b : Bool). b || (not v && offBy size q)) (lt-ltb end q h)
+
+within : (v : Bool) (end size q : ℕ) → q ≤ end → misplacedBy v end size (At q) ≡ (not v && offBy size q)
+within v end size q h = ap (λ (b : Bool). b || (not v && offBy size q)) (le-ltb end q h)
+
+within-variable : (v : Bool) (end size q : ℕ) → q ≤ end → v ≡ true → misplacedBy v end size (At q) ≡ false
+within-variable v end size q h e = within v end size q h ∙ ap (λ (b : Bool). not b && offBy size q) e
+
+within-fixed : (v : Bool) (end size q : ℕ) → q ≤ end → v ≡ false → misplacedBy v end size (At q) ≡ offBy size q
+within-fixed v end size q h e = within v end size q h ∙ ap (λ (b : Bool). not b && offBy size q) e
 
 enum-told : tie.Need-enum-told
 enum-told c = search needs
@@ -9,18 +28,34 @@ enum-told c = search needs
 enum-known-place : tie.Need-enum-known-place
 enum-known-place c = search needs
 
+returns : tie.Need-returns
+returns c =
+    let k = c .before .before in
+    let g = k .before .before .args in
+    sym (ap (misplacedBy (g .variable) (g .end) (g .size)) (k .place .given .1) ∙ beyond (g .variable) (g .end) (g .size) _ (c .if1 .taken))
+
+returns-2 : tie.Need-returns-2
+returns-2 c =
+    let e = c .before in
+    let k = e .before .before in
+    let g = k .before .before .args in
+    sym (ap (misplacedBy (g .variable) (g .end) (g .size)) (k .place .given .1) ∙ within-variable (g .variable) (g .end) (g .size) _ (e .if1 .left) (c .if2 .taken))
+
 is-off-requires : tie.Need-is-off-requires
 is-off-requires c κs = search needs
 
-cast-result : tie.Need-cast-result
-cast-result c = search needs
+returns-3 : tie.Need-returns-3
+returns-3 c = search needs
 
-returns : tie.Need-returns
-returns c = search needs
-
-returns-2 : tie.Need-returns-2
-returns-2 c = simp (c .before .before .place .given .1, c .is-off .ensures)
+returns-4 : tie.Need-returns-4
+returns-4 c =
+    let f = c .before in
+    let e = f .before in
+    let k = e .before .before in
+    let g = k .before .before .args in
+    c .is-off .ensures
+    ∙ sym (ap (misplacedBy (g .variable) (g .end) (g .size)) (k .place .given .1) ∙ within-fixed (g .variable) (g .end) (g .size) _ (e .if1 .left) (f .if2 .left))
 
 pub misplaced-by-spec : {M : Type 1} → statement M
 misplaced-by-spec =
-    tie.close (tie.spec enum-told enum-known-place is-off-requires cast-result returns returns-2)
+    tie.close (tie.spec enum-told enum-known-place returns returns-2 is-off-requires returns-3 returns-4)

@@ -1,15 +1,50 @@
 -- `reader::read::ask` meets its contract. Assumes nothing.
-use mathlib.Core.Path.{ap, ap₂, _∙_}
-use Prim.Native.Nat.{ℕ}
-use mathlib.Core.Bool.{Bool, _&&_, _||_, not}
+use mathlib.Core.Path.{_≡_, sym, ap, _∙_}
+use mathlib.Core.Bool.{Bool, true, false, _&&_}
+use native.Mathlib.Omega.{arith}
 use lib.Dec.{eqb}
-use Rattle.lists.specs.Tests.{pick}
+use borrow.Author.Tests.{not-true, not-false}
+use Rattle.lists.proofs.Tests.{or-left, or-right, false-or}
+use Rattle.line.specs.Check.{fitsLength}
 use Rattle.course.specs.Course.{impossibleAfter}
+use Rattle.reader.specs.Phases.{isBusy, misphased}
 use Rattle.reader.specs.State.{capacity, impossible}
-use Rattle.reader.specs.Reading.{readFault}
+use Rattle.reader.proofs.ReadLaws.{fault-1, fault-2, fault-0}
 use borrow.Author.Needs.{needs}
 use Rattle.reader.proofs.read.ask.Statement.{statement}
 use Rattle.reader.proofs.read.ask.Tie as tie
+
+-- ---- what the tests found
+-- 1: the words and the room
+asked : (x : tie.After-is-fit) (b : Bool) →
+    let g = x .before .before .args in
+    (x .is-fit .result && eqb (g .room) 16384) ≡ b → (fitsLength (g .st .system) (g .st .mode) (g .long) && eqb (g .room) capacity) ≡ b
+asked x b e = ap (λ (f : Bool). f && eqb (x .before .before .args .room) capacity) (sym (x .is-fit .ensures)) ∙ e
+
+fit : (x : tie.Else1) →
+    let g = x .before .before .before .args in
+    (fitsLength (g .st .system) (g .st .mode) (g .long) && eqb (g .room) capacity) ≡ true
+fit x = asked (x .before) true (not-false _ (x .if1 .left))
+
+-- 2: the course of lines
+course : (x : tie.After-look) →
+    let st = x .before .before .before .before .before .args .st in
+    x .look .result .impossible ≡ impossibleAfter (st .system) (st .last) (st .settings) (st .place) (isBusy (st .phase))
+course x =
+    let st = x .before .before .before .before .before .args .st in
+    x .look .ensures .0 ∙ ap (impossibleAfter (st .system) (st .last) (st .settings) (st .place)) (x .before .is-busy .ensures)
+
+is-fit-requires : tie.Need-is-fit-requires
+is-fit-requires c κs = search needs
+
+barred-requires : tie.Need-barred-requires
+barred-requires c κs = search needs
+
+returns : tie.Need-returns
+returns c =
+    let x = c .before .before in
+    let e = c .barred .ensures in
+    (e ∙ fault-1 (x .before .before .args .st) _ _ (asked x false (not-true _ (c .before .if1 .taken))), λ z. absurd (omega (arith, e, z)))
 
 is-busy-requires : tie.Need-is-busy-requires
 is-busy-requires c κs = search needs
@@ -17,35 +52,54 @@ is-busy-requires c κs = search needs
 look-requires : tie.Need-look-requires
 look-requires c κs = search needs
 
+barred-requires-2 : tie.Need-barred-requires-2
+barred-requires-2 c κs = search needs
+
+returns-2 : tie.Need-returns-2
+unfolding impossible
+returns-2 c =
+    let x = c .before .before in
+    let e = c .barred2 .ensures in
+    let bad = or-left _ _ (sym (course x) ∙ c .before .if2 .taken) in
+    (e ∙ fault-2 (x .before .before .before .before .before .args .st) _ _ (fit (x .before .before)) bad, λ z. absurd (omega (arith, e, z)))
+
 is-misphased-requires : tie.Need-is-misphased-requires
 is-misphased-requires c κs = search needs
 
-or-else-requires : tie.Need-or-else-requires
-or-else-requires c κs = search needs
+barred-requires-3 : tie.Need-barred-requires-3
+barred-requires-3 c κs = search needs
 
-is-fit-requires : tie.Need-is-fit-requires
-is-fit-requires c κs = search needs
+returns-3 : tie.Need-returns-3
+unfolding impossible
+returns-3 c =
+    let m = c .before .before in
+    let x = m .before .before in
+    let st = x .before .before .before .before .before .args .st in
+    let e = c .barred3 .ensures in
+    let bad = or-right (impossibleAfter (st .system) (st .last) (st .settings) (st .place) (isBusy (st .phase))) (misphased capacity (st .phase)) (sym (m .is-misphased .ensures) ∙ c .before .if3 .taken) in
+    (e ∙ fault-2 st _ _ (fit (x .before .before)) bad, λ z. absurd (omega (arith, e, z)))
 
-or-else-requires-2 : tie.Need-or-else-requires-2
-or-else-requires-2 c κs = search needs
-
-returns : tie.Need-returns
-unfolding readFault impossible
-returns c =
-    let f = c .before .before in
-    let x = f .before .before .before in
-    let a = x .before .before .before .args in
-    let st = a .st in
-    let possible =
-    ap₂ _||_ (x .look .ensures .0 ∙ ap (λ (b : Bool). impossibleAfter (st .system) (st .last) (st .settings) (st .place) b) (x .before .is-busy .ensures))
-    (f .before .before .is-misphased .ensures) in
-    let state = f .or-else .ensures ∙ ap (λ (b : Bool). pick b 2 0) possible in (
-      c .or-else2 .ensures ∙ ap₂ (λ (b : Bool) (k : ℕ). pick (not (b && eqb (a .room) capacity)) 1 k) (c .before .is-fit .ensures) state,
-      x .look .ensures .1,
-      x .look .ensures .2,
-    )
+returns-4 : tie.Need-returns-4
+unfolding impossible
+returns-4 c =
+    let m = c .before in
+    let x = m .before .before in
+    let st = x .before .before .before .before .before .args .st in
+    let good = false-or (sym (course x) ∙ m .before .if2 .left) (sym (m .is-misphased .ensures) ∙ c .if3 .left) in
+    (fault-0 st _ _ (fit (x .before .before)) good, λ z. (x .look .ensures .1, x .look .ensures .2))
 
 pub ask-spec : {M : Type 1} → statement M
 ask-spec =
     tie.close
-    (tie.spec is-busy-requires look-requires is-misphased-requires or-else-requires is-fit-requires or-else-requires-2 returns)
+    (tie.spec
+    is-fit-requires
+    barred-requires
+    returns
+    is-busy-requires
+    look-requires
+    barred-requires-2
+    returns-2
+    is-misphased-requires
+    barred-requires-3
+    returns-3
+    returns-4)

@@ -28,7 +28,8 @@ enum-known-place c = search needs
 read-on-requires : tie.Need-read-on-requires
 read-on-requires c κs =
     let f = c .before .before .before .before in
-    (c .before .before .place .given .1, sym (f .before .before .ask .ensures .0) ∙ f .if1 .left, f .before .before .ask .ensures .1, f .before .before .ask .ensures .2)
+    let found = f .before .before .ask .ensures .1 (f .if1 .left) in
+    (c .before .before .place .given .1, sym (f .before .before .ask .ensures .0) ∙ f .if1 .left, found .0, found .1)
 
 returns-2 : tie.Need-returns-2
 returns-2 c =

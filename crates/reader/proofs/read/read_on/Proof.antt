@@ -23,11 +23,8 @@ small x =
 walk-from-requires : tie.Need-walk-from-requires
 walk-from-requires c κs = search needs
 
-add-next : tie.Need-add-next
-add-next c = let h = small (c .before .before .before) in search needs
-
-cast-tell : tie.Need-cast-tell
-cast-tell c = let h = small (c .before .before .before) in search needs
+add-tell : tie.Need-add-tell
+add-tell c = let h = small (c .before .before .before) in search needs
 
 tell-requires : tie.Need-tell-requires
 tell-requires c κs = search needs
@@ -43,4 +40,4 @@ returns c =
 
 pub read-on-spec : {M : Type 1} → statement M
 read-on-spec =
-    tie.close (tie.spec walk-from-requires add-next cast-tell tell-requires same-length returns)
+    tie.close (tie.spec walk-from-requires add-tell tell-requires same-length returns)

@@ -1,21 +1,147 @@
 -- `writer::adding::add_fault` meets its contract. Assumes nothing.
-use mathlib.Core.Path.{refl, ap, ap₂, _∙_}
+use mathlib.Core.Path.{_≡_, sym, ap, ap₂, _∙_}
+use mathlib.Core.List.{List}
 use Prim.Native.Nat.{ℕ}
+use mathlib.Core.Bool.{Bool, true, false, _||_, not}
 use lib.ListN.{length}
-use mathlib.Core.Bool.{Bool, _||_, not}
-use Rattle.course.specs.Course.{impossibleAfter}
-use Rattle.writer.specs.State.{impossible}
-use Rattle.writer.specs.Adding.{illShaped, isFull, addFault}
-use Rattle.writer.proofs.StateLaws.{next-refusal, no-refusal}
+use Rattle.lists.specs.Tests.{pick}
+use Rattle.lists.proofs.Tests.{pick-true, pick-false}
+use Rattle.line.specs.Check.{fitsLength}
+use Rattle.course.specs.Course.{isAt, impossibleAfter}
+use Rattle.writer.specs.declared.state.Writer.{Writer}
+use Rattle.writer.specs.State.{isPart, misshapen, impossible, endIn}
+use Rattle.writer.specs.Adding.{valued, illShaped, isFull, isOther, addFault}
 use borrow.Author.Needs.{needs}
 use Rattle.writer.proofs.adding.add_fault.Statement.{statement}
 use Rattle.writer.proofs.adding.add_fault.Tie as tie
+
+-- the first condition that holds gives the number: each number, where the conditions before it do not hold
+module _ (w : Writer) (long kind : ℕ) (vs : List ℕ) where
+  refused-1 : not (fitsLength (w .system) (w .mode) long) ≡ true → 1 ≡ addFault w long kind vs
+  unfolding addFault
+  refused-1 e = sym (pick-true 1 _ e)
+
+  module _ (fit : not (fitsLength (w .system) (w .mode) long) ≡ false) where
+    refused-2 : impossible w ≡ true → 2 ≡ addFault w long kind vs
+    unfolding addFault
+    refused-2 e = sym (pick-false 1 _ fit ∙ pick-true 2 _ e)
+
+    module _ (possible : impossible w ≡ false) where
+      refused-17 : not (valued (w .mode) vs) ≡ true → 17 ≡ addFault w long kind vs
+      unfolding addFault
+      refused-17 e = sym (pick-false 1 _ fit ∙ pick-false 2 _ possible ∙ pick-true 17 _ e)
+
+      module _ (good : not (valued (w .mode) vs) ≡ false) where
+        refused-18 : {b : Bool} → b ≡ illShaped (w .place) (w .settings .block) kind (length vs) → b ≡ true → 18 ≡ addFault w long kind vs
+        unfolding addFault
+        refused-18 f e = sym (pick-false 1 _ fit ∙ pick-false 2 _ possible ∙ pick-false 17 _ good ∙ pick-true 18 _ (sym f ∙ e))
+
+        module _ (shaped : illShaped (w .place) (w .settings .block) kind (length vs) ≡ false) where
+          refused-19 : isFull (endIn w) (w .place) ≡ true → 19 ≡ addFault w long kind vs
+          unfolding addFault
+          refused-19 e = sym (pick-false 1 _ fit ∙ pick-false 2 _ possible ∙ pick-false 17 _ good ∙ pick-false 18 _ shaped ∙ pick-true 19 _ e)
+
+          last-20 : isFull (endIn w) (w .place) ≡ false → pick (not (isAt (w .place)) || isOther (w .rest) kind (length vs)) 20 0 ≡ addFault w long kind vs
+          unfolding addFault
+          last-20 e = sym (pick-false 1 _ fit ∙ pick-false 2 _ possible ∙ pick-false 17 _ good ∙ pick-false 18 _ shaped ∙ pick-false 19 _ e)
+
+-- the tests of the state and of the room, by what the look found
+impossible-by : (w : Writer) (i b m : Bool) → i ≡ impossibleAfter (w .system) (w .last) (w .settings) (w .place) b → b ≡ isPart (w .rest) → m ≡ misshapen (w .rest)
+    → (i || m) ≡ impossible w
+unfolding impossible
+impossible-by w i b m e f g = ap₂ _||_ (e ∙ ap (λ (b : Bool). impossibleAfter (w .system) (w .last) (w .settings) (w .place) b) f) g
+
+full-by : (w : Writer) (f : Bool) (end : ℕ) → f ≡ isFull end (w .place) → end ≡ endIn w → f ≡ isFull (endIn w) (w .place)
+full-by w f end e g = e ∙ ap (λ (n : ℕ). isFull n (w .place)) g
+
+looked : (c : tie.After-is-misshapen) →
+    let w = c .before .before .before .before .before .before .before .args .w in
+    (c .before .look .result .impossible || c .is-misshapen .result) ≡ impossible w
+looked c =
+    let x = c .before in
+    impossible-by (x .before .before .before .before .before .before .args .w) _ _ _ (x .look .ensures .0) (x .before .is-part .ensures) (c .is-misshapen .ensures)
+
+filled : (c : tie.After-is-full) →
+    let w = c .before .before .before .before .before .before .before .before .before .before .before .before .before .before .args .w in
+    c .is-full .result ≡ isFull (endIn w) (w .place)
+filled c =
+    let x = c .before .before .before .before .before .before .before .before in
+    full-by (x .before .before .before .before .before .before .args .w) _ _ (c .is-full .ensures) (x .look .ensures .1)
+
+-- the conditions of the tests that were passed
+fit : (c : tie.Else1) →
+    let a = c .before .before .before .before .args in
+    not (fitsLength (a .w .system) (a .w .mode) (a .long)) ≡ false
+fit c = sym (ap not (c .before .is-fit .ensures)) ∙ c .if1 .left
+
+possible : (c : tie.Else2) → impossible (c .before .before .before .before .before .before .before .before .before .args .w) ≡ false
+possible c = sym (looked (c .before .before)) ∙ c .if2 .left
+
+good : (c : tie.Else3) →
+    let a = c .before .before .before .before .before .before .before .before .before .before .before .args in
+    not (valued (a .w .mode) (a .values .now)) ≡ false
+good c = sym (ap not (c .before .is-valued .ensures)) ∙ c .if3 .left
+
+shaped : (c : tie.Else4) →
+    let a = c .before .before .before .before .before .before .before .before .before .before .before .before .before .args in
+    illShaped (a .w .place) (a .w .settings .block) (a .kind) (length (a .values .now)) ≡ false
+shaped c = sym (c .before .is-ill-shaped .ensures) ∙ c .if4 .left
+
+is-fit-requires : tie.Need-is-fit-requires
+is-fit-requires c κs = search needs
+
+returns : tie.Need-returns
+returns c =
+    let a = c .before .before .before .before .args in
+    refused-1 (a .w) (a .long) (a .kind) (a .values .now) (sym (ap not (c .before .is-fit .ensures)) ∙ c .if1 .taken)
 
 is-part-requires : tie.Need-is-part-requires
 is-part-requires c κs = search needs
 
 look-requires : tie.Need-look-requires
 look-requires c κs = search needs
+
+is-misshapen-requires : tie.Need-is-misshapen-requires
+is-misshapen-requires c κs = search needs
+
+returns-2 : tie.Need-returns-2
+returns-2 c =
+    let e1 = c .before .before .before .before .before in
+    let a = e1 .before .before .before .before .args in
+    refused-2 (a .w) (a .long) (a .kind) (a .values .now) (fit e1) (sym (looked (c .before .before)) ∙ c .if2 .taken)
+
+is-valued-requires : tie.Need-is-valued-requires
+is-valued-requires c κs = search needs
+
+returns-3 : tie.Need-returns-3
+returns-3 c =
+    let e2 = c .before .before in
+    let e1 = e2 .before .before .before .before .before in
+    let a = e1 .before .before .before .before .args in
+    refused-17 (a .w) (a .long) (a .kind) (a .values .now) (fit e1) (possible e2) (sym (ap not (c .before .is-valued .ensures)) ∙ c .if3 .taken)
+
+is-ill-shaped-requires : tie.Need-is-ill-shaped-requires
+is-ill-shaped-requires c κs = c .before .before .before .before .before .look .ensures .2
+
+returns-4 : tie.Need-returns-4
+returns-4 c =
+    let e3 = c .before .before in
+    let e2 = e3 .before .before in
+    let e1 = e2 .before .before .before .before .before in
+    let a = e1 .before .before .before .before .args in
+    refused-18 (a .w) (a .long) (a .kind) (a .values .now) (fit e1) (possible e2) (good e3) (c .before .is-ill-shaped .ensures) (c .if4 .taken)
+
+is-full-requires : tie.Need-is-full-requires
+is-full-requires c κs = search needs
+
+returns-5 : tie.Need-returns-5
+returns-5 c =
+    let e4 = c .before .before in
+    let e3 = e4 .before .before in
+    let e2 = e3 .before .before in
+    let e1 = e2 .before .before .before .before .before in
+    let a = e1 .before .before .before .before .args in
+    refused-19 (a .w) (a .long) (a .kind) (a .values .now) (fit e1) (possible e2) (good e3) (shaped e4) (sym (filled (c .before)) ∙ c .if5 .taken)
 
 is-at-requires : tie.Need-is-at-requires
 is-at-requires c κs = search needs
@@ -26,74 +152,36 @@ is-other-requires c κs = search needs
 or-else-requires : tie.Need-or-else-requires
 or-else-requires c κs = search needs
 
-is-full-requires : tie.Need-is-full-requires
-is-full-requires c κs = search needs
-
-or-else-requires-2 : tie.Need-or-else-requires-2
-or-else-requires-2 c κs = search needs
-
-is-ill-shaped-requires : tie.Need-is-ill-shaped-requires
-is-ill-shaped-requires c κs = c .before .before .before .before .before .look .ensures .2
-
-or-else-requires-3 : tie.Need-or-else-requires-3
-or-else-requires-3 c κs = search needs
-
-is-valued-requires : tie.Need-is-valued-requires
-is-valued-requires c κs = search needs
-
-or-else-requires-4 : tie.Need-or-else-requires-4
-or-else-requires-4 c κs = search needs
-
-is-misshapen-requires : tie.Need-is-misshapen-requires
-is-misshapen-requires c κs = search needs
-
-or-else-requires-5 : tie.Need-or-else-requires-5
-or-else-requires-5 c κs = search needs
-
-is-fit-requires : tie.Need-is-fit-requires
-is-fit-requires c κs = search needs
-
-or-else-requires-6 : tie.Need-or-else-requires-6
-or-else-requires-6 c κs = search needs
-
-returns : tie.Need-returns
-unfolding addFault impossible
-returns c =
-    let f5 = c .before .before in
-    let f4 = f5 .before .before .before in
-    let f3 = f4 .before .before in
-    let f2 = f3 .before .before in
-    let f1 = f2 .before .before in
-    let x = f1 .before .before .before in
-    let w = x .before .before .before .before .args .w in
-    let a = x .before .before .before .before .args in
-    let possible =
-    ap₂ _||_ (x .look .ensures .0 ∙ ap (λ (b : Bool). impossibleAfter (w .system) (w .last) (w .settings) (w .place) b) (x .before .is-part .ensures))
-    (f5 .before .before .is-misshapen .ensures) in
-    next-refusal 1 (c .or-else6 .ensures) (ap not (c .before .is-fit .ensures)) refl
-    (next-refusal 2 (f5 .or-else5 .ensures) possible refl
-    (next-refusal 17 (f4 .or-else4 .ensures) (ap not (f4 .before .is-valued .ensures)) refl
-    (next-refusal 18 {b = illShaped (w .place) (w .settings .block) (a .kind) (length (a .values .now))} (f3 .or-else3 .ensures) (f3 .before .is-ill-shaped .ensures) refl
-    (next-refusal 19 (f2 .or-else2 .ensures) (f2 .before .is-full .ensures ∙ ap (λ (e : ℕ). isFull e (w .place)) (x .look .ensures .1)) refl
-    (next-refusal 20 (f1 .or-else .ensures) (ap₂ (λ (x y : Bool). not x || y) (f1 .before .before .is-at .ensures) (f1 .before .is-other .ensures)) refl no-refusal))))) .is
+returns-6 : tie.Need-returns-6
+returns-6 c =
+    let o = c .before in
+    let e5 = o .before .before in
+    let e4 = e5 .before .before in
+    let e3 = e4 .before .before in
+    let e2 = e3 .before .before in
+    let e1 = e2 .before .before .before .before .before in
+    let a = e1 .before .before .before .before .args in
+    c .or-else .ensures
+    ∙ ap₂ (λ (x y : Bool). pick (not x || y) 20 0) (o .before .is-at .ensures) (o .is-other .ensures)
+    ∙ last-20 (a .w) (a .long) (a .kind) (a .values .now) (fit e1) (possible e2) (good e3) (shaped e4) (sym (filled (e5 .before)) ∙ e5 .if5 .left)
 
 pub add-fault-spec : {M : Type 1} → statement M
 add-fault-spec =
     tie.close
     (tie.spec
+    is-fit-requires
+    returns
     is-part-requires
     look-requires
+    is-misshapen-requires
+    returns-2
+    is-valued-requires
+    returns-3
+    is-ill-shaped-requires
+    returns-4
+    is-full-requires
+    returns-5
     is-at-requires
     is-other-requires
     or-else-requires
-    is-full-requires
-    or-else-requires-2
-    is-ill-shaped-requires
-    or-else-requires-3
-    is-valued-requires
-    or-else-requires-4
-    is-misshapen-requires
-    or-else-requires-5
-    is-fit-requires
-    or-else-requires-6
-    returns)
+    returns-6)

@@ -9,9 +9,6 @@ enum-told c = search needs
 enum-known-place : tie.Need-enum-known-place
 enum-known-place c = search needs
 
-cast-result : tie.Need-cast-result
-cast-result c = search needs
-
 returns : tie.Need-returns
 returns c = search needs
 
@@ -19,4 +16,4 @@ returns-2 : tie.Need-returns-2
 returns-2 c = simp (c .before .place .given .1)
 
 pub is-full-spec : {M : Type 1} → statement M
-is-full-spec = tie.close (tie.spec enum-told enum-known-place cast-result returns returns-2)
+is-full-spec = tie.close (tie.spec enum-told enum-known-place returns returns-2)

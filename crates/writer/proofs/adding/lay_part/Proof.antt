@@ -112,9 +112,6 @@ rest-after-requires c κs = let z = sizes (found (c .before .before .before .bef
 add-t18 : tie.Need-add-t18
 add-t18 c = search needs
 
-cast-t24 : tie.Need-cast-t24
-cast-t24 c = let z = sizes (found (c .before .before .before .before .before .before)) in omega (arith, z .ends)
-
 told-requires : tie.Need-told-requires
 told-requires c κs = search needs
 
@@ -148,7 +145,6 @@ lay-part-spec =
     lay-words-requires
     rest-after-requires
     add-t18
-    cast-t24
     told-requires
     same-length
     returns)

@@ -70,9 +70,6 @@ lay-fixed-requires c κs =
 add-t14 : tie.Need-add-t14
 add-t14 c = let z = sizes (found (c .before .before .before .before .before)) in omega (arith, z .ends)
 
-cast-t20 : tie.Need-cast-t20
-cast-t20 c = let z = sizes (found (c .before .before .before .before .before)) in omega (arith, z .ends)
-
 same-length : tie.Need-same-length
 same-length c = search needs
 
@@ -99,6 +96,5 @@ lay-place-spec =
     part-lay-fixed-end
     lay-fixed-requires
     add-t14
-    cast-t20
     same-length
     returns)
