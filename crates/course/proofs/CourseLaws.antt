@@ -6,7 +6,7 @@ use Prim.Native.Nat.{ℕ, zero, suc, _+_, _-_, _*_, _/_, _%_, _≤_, _<_}
 use native.Mathlib.Nat.{zero-mod, mod-add-div', add-mul, add-mul-mod-self-right, suc-mul, mul-le-mul-right, lt-of-mul-lt-mul-right, le-of-mul-le-mul-right, one-mul, mul-div-cancel}
 use native.Mathlib.Omega.{arith}
 use lib.Dec.{eqb, leb, ltb}
-use borrow.Author.Tests.{eqb-true, eqb-false, eq-eqb, ne-eqb, le-ltb, ltb-false, not-false}
+use borrow.Author.Tests.{eqb-true, eqb-false, eq-eqb, le-ltb, ltb-false, not-false}
 use Rattle.lists.specs.Tests.{pick}
 use Rattle.lists.proofs.Tests.{true-false, or-false, false-or, pick-false}
 use Rattle.line.specs.declared.settings.Settings.{Settings}

@@ -1,10 +1,9 @@
 -- `course::look_after` meets its contract. Assumes nothing.
-use mathlib.Core.Path.{_≡_, refl, sym, ap, ap₂, _∙_}
+use mathlib.Core.Path.{_≡_, sym, ap, _∙_}
 use mathlib.Core.Bool.{Bool, true, false, _&&_, _||_, not}
 use Prim.Native.Nat.{ℕ}
-use lib.Dec.{eqb, leb}
-use borrow.Author.Tests.{ne-eqb, not-true}
-use Rattle.lists.specs.Tests.{pick}
+use lib.Dec.{leb}
+use borrow.Author.Tests.{ne-eqb}
 use Rattle.lists.proofs.Tests.{or-left, or-right, pick-true, pick-false}
 use Rattle.line.specs.declared.systems.System.{System}
 use Rattle.line.specs.Systems.{systemOf}

@@ -1,5 +1,4 @@
 -- `line::settings::find_fault` meets its contract. Assumes nothing.
-use mathlib.Core.Path.{refl}
 use borrow.Author.Needs.{needs}
 use Rattle.line.proofs.settings.find_fault.Statement.{statement}
 use Rattle.line.proofs.settings.find_fault.Tie as tie

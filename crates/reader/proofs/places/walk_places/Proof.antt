@@ -1,5 +1,5 @@
 -- `reader::places::walk_places` meets its contract. Assumes nothing.
-use mathlib.Core.Path.{_≡_, sym, _∙_}
+use mathlib.Core.Path.{sym, _∙_}
 use native.Mathlib.Omega.{arith}
 use Rattle.reader.proofs.PlaceLaws.{front-stops, front-fit}
 use borrow.Author.Needs.{needs}
