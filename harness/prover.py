@@ -131,17 +131,17 @@ class Copy:
 
 
 def first_error(log):
-    """The lines of the first error."""
+    """The lines of the first error that is not of another one's making; or what is not proved of a function with no proof of its own."""
     lines = log.splitlines()
     for i, line in enumerate(lines):
-        if re.match(r"\S+:\d+:\d+: error: ", line):
+        if re.match(r"\S+:\d+:\d+: error: ", line) and "so this cannot be checked" not in line:
             end = next((k for k in range(i + 1, len(lines)) if not lines[k].startswith(" ")), len(lines))
             return lines[i:end]
-    return [line for line in lines if "not admitted" in line or "it is not proved" in line][:1]
+    return [line for line in lines if "it is not proved that" in line][:1]
 
 
 # What the prover says where a fact does not hold, and where only a name or a shape is wrong.
-FACT = r"two types|expected type|no proof of|give a proof of that|it is not proved that|`(omega|simp|search|rw)`"
+FACT = r"two types|expected type|no proof of|give a proof of that|does not hold|it is not proved that|`(omega|simp|search|rw)`"
 SHAPE = r"has no `Need-|that can be named from here|expected type `tie\.Need|has no field|not in scope"
 
 
