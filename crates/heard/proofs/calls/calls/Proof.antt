@@ -1,10 +1,10 @@
--- `heard::desk::calls` is safe and ends. Assumes nothing.
+-- `heard::calls::calls` is safe and ends. Assumes nothing.
 use Prim.Native.Nat.{_≤_, _-_}
 use lib.ListN.{length}
 use mathlib.Core.Path.{_≡_}
 use borrow.Author.Needs.{needs}
-use Rattle.heard.proofs.desk.calls.Statement.{statement}
-use Rattle.heard.proofs.desk.calls.Tie as tie
+use Rattle.heard.proofs.calls.calls.Statement.{statement}
+use Rattle.heard.proofs.calls.calls.Tie as tie
 
 abbrev Inv-loop : tie.InvT-loop
 Inv-loop times line room₀ r₀ k₀ room r k = (k ≤ times) × (length room ≡ length room₀)
