@@ -12,6 +12,7 @@ class Book:
 
     def __init__(self, scope):
         self.scope, self.steps, self.seed = scope, [], 0
+        self.headed = None  # the settings of the heading
 
     def step(self, name, *numbers):
         self.steps.append(" ".join(map(str, [name, *numbers])))
@@ -73,7 +74,9 @@ class Book:
 
     def head(self, values):
         """The settings that a line is opened with."""
-        self.step("Put", HEADING, SETTINGS, *values)
+        if values != self.headed:
+            self.step("Put", HEADING, SETTINGS, *values)
+        self.headed = values
 
     def begin(self, number, values, f=0, v=0):
         self.head(values)

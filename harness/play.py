@@ -6,7 +6,7 @@ from answers import answer
 from reader import IDLE, Reader, said
 from states import COUNT, HEADING, READER, SETTINGS, WRITER, of_phase, to_numbers, to_reader, to_writer
 from words import VARIABLE, by_python, byte_form, checksum, crc_of, crc_words, header, made, settings_by, word_of
-from writer import Writer
+from writer import DONE, Writer
 
 BUFFER = 2305  # words of the line's buffer
 
@@ -49,7 +49,7 @@ class Play:
     def step(self, text):
         name, *numbers = text.split(" ")
         method = getattr(self, f"big_{name.lower()}" if name[0].isupper() else name, None)
-        if name.lower() in ("step", "rows", "made") or not callable(method) or not all(x.isdigit() for x in numbers):
+        if not callable(method) or not all(x.isdigit() for x in numbers):
             sys.exit(f"harness: no step of ours: {text}")
         method(*map(int, numbers))
 
@@ -75,6 +75,8 @@ class Play:
         self.big_put(READER, SETTINGS, *settings_by(*values))
 
     def big_tell(self, which):
+        system, mode = self.states[which][:2]
+        self.seen["fresh", system, mode] += which == WRITER and self.states[which] == to_numbers(Writer(self.scope, system, mode))
         self.rows.append(["state", *self.states[which]])
 
     def big_impossible(self):
@@ -146,21 +148,23 @@ class Play:
         values = made_words(28 if mode == 8 else 29, count, seed)
         values[place : place + 1] = [value] * (place < count)
         begun = self.states[WRITER][6]
-        self.tell_call("added", *self.lent(length, lambda w, line: w.add(kind, values, line)))
-        self.see_end(count, begun)
+        given, register = self.lent(length, lambda w, line: w.add(kind, values, line))
+        self.tell_call("added", given, register)
+        if given == DONE:
+            self.see_end(count, begun)
 
     def tell_call(self, name, given, register):
-        self.seen[name, self.states[WRITER][1], given] += 1
+        system, mode = self.states[WRITER][:2]
+        self.seen[name, "system", system, given] += 1
+        self.seen[name, "mode", mode, given] += 1
         self.rows.append([name, given, register])
 
     def see_end(self, count, begun):
         """01's run-only cases: 30Ah on the last word of an area, or first on the next line."""
         w = to_writer(self.scope, self.states[WRITER])
-        if w.rest or not w.place or w.settings[2] != VARIABLE:
-            return
         start, end, _ = w.sizes()
-        if self.line[start + w.place - 1] == 0x30A and w.place in (1, end) and (begun or w.place == end):
-            self.seen["end", w.system, w.mode, w.settings[3], count, w.place == 1] += 1
+        if self.line[start + w.place - 1] == 0x30A and (w.place == end or (begun and w.place == 1)):
+            self.seen["end", w.mode, w.settings[3], count, w.place == 1] += 1
 
     # The reader's calls
 

@@ -1,5 +1,5 @@
 """Cases of states that are put: every value of the reader's and the writer's, possible or not. What 01 calls impossible is answer 2, and just inside it is not."""
-from book import ROOM, Book, whole
+from book import whole
 from states import READER, SETTINGS, WRITER
 from words import VARIABLE, block_head, byte_form, made, settings
 
@@ -41,45 +41,49 @@ def last_cases(book):
 # The writer
 
 
+PART = (1, 7, 10, 5, 0)  # an unfinished block
+
+
 def writer_cases(book):
-    part = (1, 7, 10, 5, 0)
-    open_settings, shut = settings_cases(book)
+    variable, fixed = settings_cases(book)
     places, fixed_places = place_cases(book)
-    cases = [{}, *last_cases(book), *open_settings, *shut, *places, *fixed_places]
-    cases += [case | {"five": part} for case in [{}, *last_cases(book), *open_settings, *shut, *places, *fixed_places]]
-    cases += [{"last": (0, 0), "place": place, "five": five} for place in [(0, 0), (1, 0), (1, 5)] for five in [(0, 0, 0, 0, 0), part]]
+    cases = [case | {"five": PART} for case in [{}, *last_cases(book), *variable, *places, *fixed_places[:3]]]
+    cases += [{}, *last_cases(book), *fixed, *places[-3:], *fixed_places]
+    cases += [{"last": (0, 0), "place": place, "five": five} for place in [(0, 0), (1, 0), (1, 5)] for five in [(0, 0, 0, 0, 0), PART]]
     cases += [{"last": (0, 0), "place": (0, 0), "code": 9, "flag": 9, "changed": [(36, 9)]}]
-    cases += [{"place": (0, 0), "five": part}, {"place": (0, 0)}, {"place": (0, 0), "block": 0x21, "five": part}, {"place": (0, 0), "block": 0x21}]
+    cases += [{"place": (0, 0), "five": PART}, {"place": (0, 0)}, {"place": (0, 0), "block": 0x21, "five": PART}, {"place": (0, 0), "block": 0x21}]
     rests = [(0, 0), (0, 1), (0, 6), (0, 7), (10, 0), (10, 1), (10, 16), (10, 17), (16384, 1), (16384, 16390), (16384, 16391), (16385, 1), (65535, 65535)]
-    return cases + [{"five": (1, 7, *rest, 0), "place": place} for rest in rests for place in [(0, 0), (1, 5)]]
+    return cases + [{"five": (1, 7, *rest, 0), "place": (k % 2, 5 * (k % 2))} for k, rest in enumerate(rests)]
 
 
 def writer_calls(book, case):
-    """Each call on the state, with a number of a line that is next, none, and a line that does not fit."""
+    """Each call on the state: with a number that is next, with number 0, with a value and a type too high, and with a line that does not fit."""
     numbers = state(book, **case)
-    values, kind, n = numbers[SETTINGS:], numbers[7], numbers[8] if numbers[6] else 4
+    kind, n = (numbers[7], numbers[8]) if numbers[6] else (1, 4)
     after = numbers[3] % book.scope.systems[book.system][2] + 1
-    book.head(values)
+    start = ("Put", WRITER, 0, *numbers[:SETTINGS])
+    book.head(numbers[SETTINGS:])
     book.step("Put", WRITER, 0, *numbers)
     book.step("Impossible")
-    for number in after, 0:
-        book.step("Open", book.length, number, 1)
-        book.step("Tell", WRITER)
-        book.step("Put", WRITER, 0, *numbers)
     book.step("Open", book.length - 1, 0, 1)
-    book.add(kind or 1, n, 5)
+    book.step("Open", book.length, 0, 1)
+    book.step("Open", book.length, after, 1)
     book.step("Tell", WRITER)
-    book.step("Put", WRITER, 0, *numbers)
+    book.step(*start)
     book.add(256, n, 5, 0, 512)
+    book.add(kind, n, 5)
+    book.step("Tell", WRITER)
+    book.step(*start)
     book.end()
     book.step("Tell", WRITER)
 
 
 def writers(book):
-    for system, mode in (0, 8), (1, 9), (2, 9), (3, 8):
+    """All states in two systems, every third in the others."""
+    for system, mode, some in (0, 8, 1), (1, 9, 3), (2, 8, 3), (3, 9, 1):
         book.note(f"writer, system {system}, mode {mode}: states put")
         book.fresh(system, mode)
-        for case in writer_cases(book):
+        for case in writer_cases(book)[system % 3 :: some]:
             writer_calls(book, case)
 
 
@@ -103,34 +107,33 @@ def open_line(book, number, values):
 
 
 def reader_cases(book):
-    phase = (6, 7, 10, 3, 0)
-    open_settings, shut = settings_cases(book)
+    phases = [(0, 0, 0, 0, 0), (1, 0, 0, 0, 0), (2, 7, 0, 0, 0), (5, 7, 3, 2, 1), (6, 7, 10, 3, 0)]
+    variable, fixed = settings_cases(book)
     places, fixed_places = place_cases(book)
-    cases = [case | {"five": phase} for case in [{}, *last_cases(book), *open_settings, *places]] + [*shut, *fixed_places, *last_cases(book)]
-    cases += [{"last": (0, 0), "place": place, "five": five} for place in [(0, 0), (1, 0)] for five in [(0, 0, 0, 0, 0), (1, 0, 0, 0, 0), (2, 7, 0, 0, 0)]]
-    return cases
+    cases = [case | {"five": phases[-1]} for case in [{}, *last_cases(book), *variable, *places, fixed_places[0]]] + [*fixed, *fixed_places, *last_cases(book)]
+    return cases + [{"last": (0, 0), "place": (k % 2, 0), "five": five} for k in (0, 1) for five in phases]
 
 
 def readers(book):
     """The state read with and told, every number of it."""
-    for system, mode in (0, 9), (1, 8), (2, 8), (3, 9):
+    for system, mode, some in (0, 9, 1), (1, 8, 3), (2, 9, 3), (3, 8, 1):
         book.note(f"reader, system {system}, mode {mode}: states put")
         book.system, book.mode = system, mode
         open_line(book, 21, state(book)[SETTINGS:])
         book.step("data", 0, 1000, 3)
         book.words(9, [0x30A, 0x309, *whole(200, 1, 2)])
         book.end()
-        for case in reader_cases(book):
+        for case in reader_cases(book)[system % 3 :: some]:
             book.step("Put", READER, 0, *state(book, **case))
             book.step("Impossible")
-            Book.read(book, 2)
+            book.read(2)
             book.step("Tell", READER)
 
 
 def count_bytes(book):
     """Every phase of a count with any bytes so far, and the bytes that are still to come."""
     counts = [0, 1, 2, 255, 256, 300, 16383, 16384, 16385, 65536, 0x010203, 1 << 24, 0xFFFFFFFF]
-    for system, mode in (0, 8), (1, 9), (2, 9), (3, 8):
+    for system, mode in (0, 8), (3, 9):
         book.note(f"reader, system {system}, mode {mode}: count bytes put")
         book.system, book.mode = system, mode
         open_line(book, 21, state(book)[SETTINGS:])
@@ -141,7 +144,7 @@ def count_bytes(book):
                 five = (2 + so_far, kind, *four[:so_far], *(0,) * (3 - so_far))
                 book.words(5, [byte_form(b) for b in four[so_far:]] + [byte_form(9)] * 2 + [0x30A])
                 book.step("Put", READER, 0, *state(book, five=five))
-                Book.read(book, 1)
+                book.read(1)
                 book.step("Tell", READER)
 
 
@@ -157,7 +160,7 @@ def reader_settings(book):
         for k in range(42):
             changed = [(k, values[k] ^ 1)] if k < 41 else []
             book.step("Put", READER, 0, *state(book, place=(0, 0), five=(6, 7, 0, 3, 0), changed=changed))
-            Book.read(book, 2, room=ROOM)
+            book.read(2)
             book.step("Tell", READER)
 
 
