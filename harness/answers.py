@@ -1,7 +1,5 @@
 """What the line check answers, by 01's table "Numbered answers", condition by condition; written from 01, not from our code."""
-from words import FIRST_SIX, byte_form, checksum, crc_of, settings_fault, timing
-
-VARIABLE = 0xC1
+from words import FIRST_SIX, VARIABLE, byte_form, checksum, crc_of, settings_fault, timing
 
 
 def is_data(w):
@@ -12,13 +10,9 @@ def is_byte(w):
     return is_data(w) and w == byte_form(w)
 
 
-def fits(scope, system, mode, line):
-    return system in scope.systems and mode in (8, 9) and len(line) == scope.systems[system][0]
-
-
 def answer(scope, system, mode, line):
     """The number of the answer, 0 where there is no fault; and then the line number and the settings."""
-    if not fits(scope, system, mode, line):
+    if not scope.fits(system, mode, line):
         return 1, 0, []
     length, payload, lines = scope.systems[system]
     start = length - payload

@@ -1,54 +1,34 @@
 """The reader of 01, "The reader, step by step", written from 01 and not from our code."""
-from answers import VARIABLE, answer, fits, is_byte
-from words import settings_fault
+from answers import answer, is_byte
+from course import MOST, Course
+from words import VARIABLE
 
-ROOM = 16384
+ROOM = MOST
 IDLE, TYPE = ("idle",), ("type",)  # the others: ("count", type, bytes so far ..), ("data", type, announced, collected)
 
 
-class Reader:
+class Reader(Course):
     """Its state has 01's names. A call's event is a tuple: ("refused", answer, dropped), ("begun", number, jump or None, dropped),
     ("block", type, length), ("drop", reason) or ("end",)."""
 
-    def __init__(self, scope, system, mode):
-        self.scope, self.system, self.mode = scope, system, mode
-        self.last = None  # the last accepted line number
-        self.settings = [0] * 41  # as words.settings gives them
-        self.place = None  # in the begun line
-        self.phase = IDLE
+    phase = IDLE
 
     def read(self, line, room):
         """A reading call."""
-        if not fits(self.scope, self.system, self.mode, line) or len(room) != ROOM:
+        if not self.fits(line) or len(room) != ROOM:
             return "refused", 1, False
         if self.impossible():
             return "refused", 2, False
         return self.begin(line) if self.place is None else self.go_on(line, room)
 
-    def end(self):
-        """How many words of the payload blocks may stand in, and how many a fixed block has (variable: 1)."""
-        payload = self.scope.systems[self.system][1]
-        block, flag = self.settings[2:4]
-        if block == VARIABLE:
-            return payload - 2 * flag, 1
-        size, at270, at360 = self.scope.fixed[block & 0x3F]
-        return size * (at270 if payload == 1440 else at360), size
-
     def impossible(self):
-        if self.last is None:
-            return self.phase != IDLE or self.place is not None
-        if not 1 <= self.last <= self.scope.systems[self.system][2] or settings_fault(self.scope, self.system, self.settings):
-            return True
-        end, size = self.end()
-        if self.place is not None and (self.place > end or self.place % size):
-            return True
-        if self.phase != IDLE and self.settings[2] != VARIABLE:
+        if self.impossible_with(self.phase != IDLE):
             return True
         if self.phase[0] == "count":
             return len(self.phase) - 2 >= 4
         if self.phase[0] == "data":
             announced, collected = self.phase[2:]
-            return announced > ROOM or collected > ROOM or 0 < announced < collected
+            return announced > MOST or collected > MOST or 0 < announced < collected
         return False
 
     def jump(self, number):
@@ -56,9 +36,8 @@ class Reader:
         if self.last is None:
             return None
         lines = self.scope.systems[self.system][2]
-        expected = 1 if self.last == lines else self.last + 1
         half = lines // 2
-        return (number - expected + half) % lines - half
+        return (number - self.next_number() + half) % lines - half
 
     def begin(self, line):
         fault, number, settings = answer(self.scope, self.system, self.mode, line)
@@ -77,9 +56,8 @@ class Reader:
         return w & (0xFF if self.mode == 8 else 0x1FF)
 
     def go_on(self, line, room):
-        length, payload, _ = self.scope.systems[self.system]
-        area = line[length - payload :]
-        end, size = self.end()
+        start, end, size = self.sizes()
+        area = line[start:]
         while self.place < end:
             words = area[self.place : self.place + size]
             self.place += size

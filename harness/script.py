@@ -4,103 +4,11 @@
 """
 import sys
 
-from answers import VARIABLE
-from words import Scope, byte_form, checksum, crc_of, data_form, header, opened_line, settings_by
-
-ROOM = 16384
-TO, SOURCE = 11, 12  # the seeds of the addresses
-
-
-class Book:
-    """The steps so far, and what the next line needs: system, mode, and the line's number."""
-
-    def __init__(self, scope):
-        self.scope, self.steps, self.seed = scope, [], 0
-
-    def step(self, name, *numbers):
-        self.steps.append(" ".join(map(str, [name, *numbers])))
-
-    def note(self, text):
-        self.steps.append(f"# {text}")
-
-    def new(self, system, mode, number=20):
-        self.system, self.mode, self.number = system, mode, number
-        self.step("new", system, mode)
-
-    def area(self, flag):
-        return self.scope.systems[self.system][1] - 2 * flag
-
-    def open(self, flag=0, block=VARIABLE, aai=0, timing=0, to=TO, source=SOURCE, number=None):
-        """Opens the next line, or one of that number."""
-        number = number or self.number
-        self.number = number % self.scope.systems[self.system][2] + 1
-        self.step("open", number, timing, aai, block, flag, to, source)
-
-    def words(self, place, words):
-        for k in range(0, len(words), 7):
-            self.step("words", place + k, *words[k : k + 7])
-
-    def data(self, place, count):
-        self.seed += 1
-        self.step("data", place, count, self.seed)
-
-    def read(self, times=2000, length=None, room=ROOM):
-        self.step("read", times, length or self.scope.systems[self.system][0], room)
-
-    def line(self, place=0, words=(), **how):
-        """A line with these words, closed and read."""
-        self.open(**how)
-        self.words(place, list(words))
-        self.step("close")
-        self.read()
-
-    def left_open(self, words, **how):
-        """A line that ends with these words."""
-        self.line(self.area(0) - len(words), words, **how)
-
-    def piece(self, place, piece):
-        """Words, or a number of data words."""
-        if isinstance(piece, int):
-            self.data(place, piece)
-        else:
-            self.words(place, piece)
-
-    def stream(self, first, runs, flag=0, later=False):
-        """Runs from a place on (below 0: of the line before), over as many lines as they need, each read to its end. later: they
-        are laid after the line was begun."""
-        pieces = list(cut(first, self.area(flag), runs))
-        for i in range(pieces[0][0], pieces[-1][0] + 1):
-            self.open(flag=flag)
-            if later:
-                self.step("close")
-                self.read(1)
-            for line, place, piece in pieces:
-                if line == i:
-                    self.piece(place, piece)
-            if not later:
-                self.step("close")
-            self.read()
-
-
-def cut(first, area, runs):
-    """Runs, each a list of words or a number of data words, cut where an area ends: line, place and piece."""
-    at = first
-    for run in runs:
-        size = run if isinstance(run, int) else len(run)
-        while size:
-            many = min(size, area - at % area)
-            yield at // area, at % area, many if isinstance(run, int) else run[len(run) - size :][:many]
-            at, size = at + many, size - many
-
-
-def head(kind, count):
-    return [0x309, byte_form(kind), *map(byte_form, count.to_bytes(4, "little"))]
-
-
-def whole(kind, *values):
-    """A block in 8-bit form, which both modes take."""
-    return head(kind, len(values)) + [*map(byte_form, values), 0x30A]
-
+import courses
+import lines
+import put
+from book import ROOM, SOURCE, TO, Book, whole
+from words import VARIABLE, Scope, block_head, byte_form, checksum, crc_of, data_form, header, opened_line, settings_by
 
 ONE, TWO, THREE = map(byte_form, (1, 2, 3))
 NOT_BYTE = 0x100  # data form, and not byte form
@@ -108,16 +16,16 @@ NOT_BYTE = 0x100  # data form, and not byte form
 # For each drop some causes: the words before, the causing word, and whether an 8-bit line with it is refused, so that it is laid later.
 CAUSES = [
     (1, [0x309], 0x309, False),
-    (1, head(7, 3) + [ONE, TWO], 0x309, False),
+    (1, block_head(7, 3) + [ONE, TWO], 0x309, False),
     (2, [0x309], NOT_BYTE, True),
-    (3, head(7, 5)[:2], NOT_BYTE, True),
-    (3, head(7, 5)[:5], NOT_BYTE, True),
-    (3, head(7, 16385)[:5], byte_form(0), False),
-    (3, head(7, 0)[:5], byte_form(1), False),
+    (3, block_head(7, 5)[:2], NOT_BYTE, True),
+    (3, block_head(7, 5)[:5], NOT_BYTE, True),
+    (3, block_head(7, 16385)[:5], byte_form(0), False),
+    (3, block_head(7, 0)[:5], byte_form(1), False),
     (4, [0x309], 0x30A, False),
-    (4, head(7, 3)[:3], 0x30A, False),
-    (4, head(7, 3) + [ONE, TWO], 0x30A, False),
-    (5, head(7, 3) + [ONE, TWO, THREE], 0x200, False),
+    (4, block_head(7, 3)[:3], 0x30A, False),
+    (4, block_head(7, 3) + [ONE, TWO], 0x30A, False),
+    (5, block_head(7, 3) + [ONE, TWO, THREE], 0x200, False),
 ]
 
 
@@ -138,21 +46,21 @@ def long_blocks(book):
         for k, (n, count) in enumerate([(0, 0), (16384, 16384), (16384, 0), (16383, 0), (1433, 1433), (1434, 0)]):
             book.note(f"mode {mode}, {n} data words, count {count}")
             book.new(k % 4, mode, 520)
-            book.stream(0, [head(k, count), n, [0x30A]], k % 2)
+            book.stream(0, [block_head(k, count), n, [0x30A]], k % 2)
             book.step("view")
         for system, last in (0, 0), (1, 700), (2, 1917), (3, 1919):
             book.note(f"mode {mode}, drop 6: with no count one data word too many, at place {last} of an area")
             book.new(system, mode, 1)
             flag = last == 1917
-            book.stream((last - 16390) % book.area(flag), [head(3, 0), 16385, [0x200, 0x30A], whole(4, 9)], int(flag))
+            book.stream((last - 16390) % book.area(flag), [block_head(3, 0), 16385, [0x200, 0x30A], whole(4, 9)], int(flag))
             book.step("view")
         book.note(f"mode {mode}, drop 3: count 16,385")
         book.new(0, mode)
-        book.stream(1436, [head(3, 16385), 2000, [0x30A], whole(5)])
+        book.stream(1436, [block_head(3, 16385), 2000, [0x30A], whole(5)])
 
 
 # The words before, for each phase
-PHASES = [[], [0x309], *(head(6, 2)[:n] for n in (2, 3, 4, 5, 6)), head(6, 2) + [ONE], head(6, 2) + [ONE, TWO], head(6, 0), head(6, 0) + [ONE]]
+PHASES = [[], [0x309], *(block_head(6, 2)[:n] for n in (2, 3, 4, 5, 6)), block_head(6, 2) + [ONE], block_head(6, 2) + [ONE, TWO], block_head(6, 0), block_head(6, 0) + [ONE]]
 
 
 def phases(book):
@@ -232,13 +140,13 @@ def jumps(book):
         for k, (one, two) in enumerate(pairs):
             book.note(f"system {system}: line {two} after line {one}")
             book.new(system, 8 + k % 2)
-            book.left_open(head(k, 3) if k % 3 < 2 else [], number=one)
+            book.left_open(block_head(k, 3) if k % 3 < 2 else [], number=one)
             book.line(0, [ONE, TWO, THREE, 0x30A], number=two)
     for system, mode in (0, 8), (3, 9):
         book.note("an open block, and then a changed setting, or none; F and V are no settings")
         for how in {}, {"timing": 3}, {"aai": 1}, {"flag": 1}, {"block": 0x01}, {"to": 13}, {"source": 14}:
             book.new(system, mode)
-            book.left_open(head(5, 3) + [ONE, TWO])
+            book.left_open(block_head(5, 3) + [ONE, TWO])
             book.line(0, [THREE, 0x30A] if how.get("block", VARIABLE) == VARIABLE else [], **how)
             book.line(0, whole(8, 4))
 
@@ -292,9 +200,9 @@ def spoiled(book, flag, block, number, answer):
 
 def refusals(book):
     for system, mode, flag, block, opened in [
-        (0, 8, 1, VARIABLE, head(9, 4)),
+        (0, 8, 1, VARIABLE, block_head(9, 4)),
         (3, 9, 1, VARIABLE, []),
-        (1, 9, 1, 0x21, head(9, 4)),
+        (1, 9, 1, 0x21, block_head(9, 4)),
         (2, 8, 1, 0x24, []),
     ]:
         for answer in range(3, 17):
@@ -323,7 +231,7 @@ def unfit(book):
         for length, room in wrong:
             book.read(1, length, room)
         book.open()
-        book.words(1426, whole(1, 5) + head(2, 2))
+        book.words(1426, whole(1, 5) + block_head(2, 2))
         book.step("close")
         for _ in range(3):
             book.read(1)
@@ -384,6 +292,8 @@ def script(scope):
     """All the steps, as text."""
     book = Book(scope)
     for part in drops, long_blocks, phases, mixes, fixed, fixed_later, jumps, refusals, unfit, impossible:
+        part(book)
+    for part in lines.PARTS + courses.PARTS + put.PARTS:
         part(book)
     return "".join(f"{step}\n" for step in book.steps)
 

@@ -1,4 +1,4 @@
-"""What the scripts share: rows of crates/worked/stdout, 01's tables, forms of words, headers, and the CRC by programs that are not ours.
+"""What the scripts share: 01's tables, forms of words, headers, and the CRC by programs that are not ours.
 
 Written from 01, not from our code. The two programs: crccheck (Python) and Digest::CRC (Perl), both from Debian.
 """
@@ -10,22 +10,9 @@ import sys
 from crccheck.crc import Crc
 
 ALL_ONES = 0x3FFFF
-NAMES = ["crc", "header", "check", "fit", "wrote", "fresh", "opened", "added", "closed"]
 FIRST_SIX = [0x000, 0x3FF, 0x3FF, 0x140, 0x101, 0x22E]
 FILLER = 0x200
-
-
-def rows(path, script, *names):
-    """The rows of these names, each a name and its numbers. Every row of the file has to have a known name."""
-    found = []
-    with open(path, encoding="ascii") as f:
-        for line in f:
-            name, *numbers = line.split() or [""]
-            if name not in NAMES or not all(x.isdigit() for x in numbers):
-                sys.exit(f"{script}: no row of ours: {line.strip()}")
-            if name in names:
-                found.append((name, [int(x) for x in numbers]))
-    return found
+VARIABLE = 0xC1
 
 
 def fixed_blocks(text):
@@ -51,8 +38,23 @@ def byte_form(v):
     return data_form(v | (bin(v).count("1") % 2) << 8)
 
 
+def word_of(mode, v):
+    """A value in the mode's form."""
+    return byte_form(v) if mode == 8 else data_form(v)
+
+
+def block_head(kind, count):
+    """309h, the type, and the count's four bytes."""
+    return [0x309, byte_form(kind), *map(byte_form, count.to_bytes(4, "little"))]
+
+
+def block_words(kind, data):
+    """A variable block with these data words."""
+    return block_head(kind, len(data)) + [*data, 0x30A]
+
+
 def made(seed, count):
-    """Numbers of sixteen bits: the rule at the top of crates/worked/src/made.rt, written again."""
+    """Numbers of sixteen bits: the rule at the top of crates/heard/src/made.rt, written again."""
     numbers, x = [], seed
     for _ in range(count):
         x = (x * 1664525 + 1013904223) & 0xFFFFFFFF
@@ -136,6 +138,14 @@ class Scope:
         if len(self.systems) != 4 or len(self.fixed) < 30:
             sys.exit(f"{script}: cannot read the tables of 01")
 
+    def code(self, system):
+        """Code 1 is P 1440, code 2 is P 1920."""
+        return {1440: 1, 1920: 2}[self.systems[system][1]]
+
+    def fits(self, system, mode, line):
+        """A system and a mode that there are, and a line of the system's length."""
+        return system in self.systems and mode in (8, 9) and len(line) == self.systems[system][0]
+
 
 def settings(code, aai, block, flag, seed):
     """Code, AAI, block type, flag, destination, source, reserved, as the check hands them out."""
@@ -187,7 +197,7 @@ def settings_fault(scope, system, values):
     """The lowest of 10 to 14 that holds, or 0."""
     _, payload, _ = scope.systems[system]
     code, aai, block, flag = values[:4]
-    if code != {1440: 1, 1920: 2}[payload]:
+    if code != scope.code(system):
         return 10
     if aai not in (0, 1):
         return 11

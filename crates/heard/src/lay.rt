@@ -1,60 +1,108 @@
-// Words into a line. What would stand beyond the line is left out.
+// Steps that lay words into the part of the line that they are lent, and steps that put numbers into a state.
+use crate::lent;
 use crate::made;
+use crate::states;
 use crate::steps;
-use words::forms;
-ghost use Prim.Native.Nat.{_<_};
+use crate::steps::Step;
 
-// One word at an index of the line.
-pub(crate) fn put(line: &mut [u16], i: usize, w: u16) {
-    if i < line.len() {
-        line[i] = w;
-    }
-}
-
-// Words of the mode, each from the low eight (9-bit mode: nine) bits of the generator's sixteen.
-pub(crate) fn data(line: &mut [u16], mode: u8, from: usize, count: usize, seed: u32)
-    requires { ⌜ (from < 5000000000) × (count < 5000000000) ⌝ }
-{
-    let mut x = seed;
-    let mut i = 0usize;
-    while i < count {
-        x = made::next(x);
-        put(line, from + i, forms::word_of(mode, made::upper(x)));
-        i += 1;
+// One word at an index.
+pub(crate) fn put(out: &mut [u16], i: usize, w: u16) {
+    if i < out.len() {
+        out[i] = w;
     }
 }
 
 // The numbers of a step from its second on, as words.
-pub(crate) fn words(line: &mut [u16], from: usize, count: usize, ns: &[u32])
-    requires { ⌜ (from < 5000000000) × (count < 5000000000) ⌝ }
-{
-    let mut k = 1usize;
-    while k < count {
-        put(line, from + k - 1, steps::word_at(ns, k));
+fn words(out: &mut [u16], ns: &[u64]) {
+    let mut i = 0;
+    while i < out.len() {
+        out[i] = states::word(steps::at(ns, i + 1));
+        i += 1;
+    }
+}
+
+// `index INDEX WORD` at an index of the line; into the payload from a place on `words PLACE WORD ..`, `data PLACE COUNT SEED` and
+// `mix PLACE COUNT SEED`; `Make INDEX COUNT KIND SEED` from an index of the line on, the kind as in made.rt.
+pub(crate) fn lay(name: u8, mode: u8, ns: &[u64], out: &mut [u16]) {
+    let seed = steps::at(ns, 2);
+    match name {
+        b'd' => made::words(out, mode as u64, seed),
+        b'm' => made::words(out, mode as u64 + 10, seed),
+        b'M' => made::words(out, seed, steps::at(ns, 3)),
+        _ => words(out, ns),
+    }
+}
+
+// The numbers of a step from its third on, into a state from its second on.
+fn put_from(s: &mut [u64; 52], spaces: usize, ns: &[u64]) {
+    let from = lent::within(steps::at(ns, 1) as usize, 52);
+    let n = lent::within(spaces, 56);
+    let mut k = 2;
+    while k < n {
+        steps::set(s, from + k - 2, steps::at(ns, k));
         k += 1;
     }
 }
 
-// A word from sixteen bits u: of each sixteen, 309h and 30Ah once, 200h eight times, a small byte four times, any twice.
-fn mixed(mode: u8, u: u16) -> u16 {
-    match u % 16 {
-        0 => 0x309,
-        1 => 0x30a,
-        10 | 11 | 12 | 13 => forms::byte_word(u / 16 % 4),
-        14 | 15 => forms::word_of(mode, u / 16),
-        _ => 0x200,
+// `Put WHICH FROM NUMBER ..`: numbers of a state; WHICH is 0 for the reader, 1 for the writer, and 2 for the heading.
+pub(crate) fn put_into(
+    s: Step,
+    ns: &[u64],
+    rd: &mut [u64; 52],
+    wr: &mut [u64; 52],
+    hd: &mut [u64; 52],
+) {
+    match steps::at(ns, 0) {
+        0 => put_from(rd, s.spaces, ns),
+        1 => put_from(wr, s.spaces, ns),
+        _ => put_from(hd, s.spaces, ns),
     }
 }
 
-// Such words from a seed.
-pub(crate) fn mix(line: &mut [u16], mode: u8, from: usize, count: usize, seed: u32)
-    requires { ⌜ (from < 5000000000) × (count < 5000000000) ⌝ }
-{
-    let mut x = seed;
-    let mut i = 0usize;
-    while i < count {
-        x = made::next(x);
-        put(line, from + i, mixed(mode, made::upper(x)));
-        i += 1;
+// The settings of a state: its addresses from two seeds, of the reserved bytes the last.
+pub(crate) fn put_settings(s: &mut [u64; 52], reserved: u64, to: u64, source: u64) {
+    made::address(s, 15, to);
+    made::address(s, 31, source);
+    s[47] = 0;
+    s[48] = 0;
+    s[49] = 0;
+    s[50] = 0;
+    s[51] = reserved;
+}
+
+// `settings CODE AAI BLOCK FLAG RESERVED DESTINATION SOURCE`
+fn settings(s: &mut [u64; 52], ns: &[u64]) {
+    s[11] = steps::at(ns, 0);
+    s[12] = steps::at(ns, 1);
+    s[13] = steps::at(ns, 2);
+    s[14] = steps::at(ns, 3);
+    put_settings(s, steps::at(ns, 4), steps::at(ns, 5), steps::at(ns, 6));
+}
+
+// `phase NUMBER TYPE`, with announced and collected for data. Count bytes are 1, 2 and 3.
+fn phase(s: &mut [u64; 52], ns: &[u64]) {
+    let number = steps::at(ns, 0);
+    s[6] = number;
+    s[7] = steps::at(ns, 1);
+    s[8] = if number < 6 { 1 } else { steps::at(ns, 2) };
+    s[9] = if number < 6 { 2 } else { steps::at(ns, 3) };
+    s[10] = 3;
+}
+
+// The reader's part put into a value: `last KNOWN NUMBER`, `at KNOWN PLACE`, `phase`, `settings`.
+pub(crate) fn put_reader(name: u8, ns: &[u64], rd: &mut [u64; 52]) {
+    let first = steps::at(ns, 0);
+    let second = steps::at(ns, 1);
+    match name {
+        b'l' => {
+            rd[2] = first;
+            rd[3] = second;
+        }
+        b'a' => {
+            rd[4] = first;
+            rd[5] = second;
+        }
+        b'p' => phase(rd, ns),
+        _ => settings(rd, ns),
     }
 }

@@ -1,6 +1,8 @@
 // How much of a buffer is lent.
+use crate::steps;
+use crate::steps::Step;
 use line::systems;
-ghost use Prim.Native.Nat.{_<_, _≤_};
+ghost use Prim.Native.Nat.{_≤_};
 
 // A number of words that a buffer of that length has.
 pub(crate) fn within(n: usize, length: usize) -> usize
@@ -12,21 +14,59 @@ pub(crate) fn within(n: usize, length: usize) -> usize
     length
 }
 
-// The length of a system's line.
-pub(crate) fn length_of(system: u8) -> usize {
-    let s = systems::system_of(system);
-    s.length
+// A part of the line's buffer, from an index to before another.
+pub struct Part {
+    pub from: usize,
+    pub to: usize,
 }
 
-// The index of a word of the payload.
-pub(crate) fn index_of(system: u8, place: u32) -> usize
-    ensures { λ r. ⌜ r < 5000000000 ⌝ }
+// As many words from a place behind an index on; what would stand beyond the buffer is left out.
+fn cut(length: usize, index: usize, place: u64, count: u64) -> Part
+    ensures { λ r. ⌜ (r .from ≤ r .to) × (r .to ≤ length) ⌝ }
 {
-    let at = place as usize;
+    let a = within(index, length);
+    let from = a + within(place as usize, length - a);
+    let n = within(count as usize, length - from);
+    Part {
+        from: from,
+        to: from + n,
+    }
+}
+
+// Where the payload begins.
+fn start_of(system: u8) -> usize {
     match system {
-        0 => at + 276,
-        1 => at + 288,
-        2 => at + 368,
-        _ => at + 384,
+        0 => 276,
+        1 => 288,
+        2 => 368,
+        _ => 384,
+    }
+}
+
+// The numbers of a step but its first.
+fn later(spaces: usize) -> u64 {
+    if spaces == 0 {
+        return 0;
+    }
+    (spaces - 1) as u64
+}
+
+// The part of the line that a step is lent: `open` and `close` a whole line; `read`, and the steps that say LENGTH, so many words;
+// `words`, `data` and `mix` words of the payload; the others words from an index on.
+pub(crate) fn part_of(s: Step, system: u8, ns: &[u64], length: usize) -> Part
+    ensures { λ r. ⌜ (r .from ≤ r .to) × (r .to ≤ length) ⌝ }
+{
+    let known = systems::system_of(system);
+    let first = steps::at(ns, 0);
+    let second = steps::at(ns, 1);
+    let name = s.name;
+    match name {
+        b'o' | b'c' => cut(length, 0, 0, known.length as u64),
+        b'r' => cut(length, 0, 0, second),
+        b'O' | b'A' | b'C' | b'L' => cut(length, 0, 0, first),
+        b'w' => cut(length, start_of(system), first, later(s.spaces)),
+        b'd' | b'm' => cut(length, start_of(system), first, second),
+        b'i' => cut(length, 0, first, 1),
+        _ => cut(length, 0, first, second),
     }
 }

@@ -1,60 +1,66 @@
 // What is made from a seed. The generator: x starts as the seed, and each next number is x * 1664525 + 1013904223 modulo 2^32.
 // Each number gives x / 65536, sixteen bits.
-use line::settings::Settings;
-use line::systems;
-ghost use mathlib.Core.Path.{_≡_};
-ghost use lib.ListN.{length};
+use words::forms;
+ghost use Prim.Native.Nat.{_≤_};
 
 // The generator's next number.
-pub(crate) fn next(x: u32) -> u32 {
-    ((x as u64 * 1664525 + 1013904223) % 4294967296) as u32
+fn next(x: u64) -> u64 {
+    (x % 4294967296 * 1664525 + 1013904223) % 4294967296
 }
 
 // The generator's sixteen upper bits.
-pub(crate) fn upper(x: u32) -> u16 {
-    (x / 65536) as u16
+fn upper(x: u64) -> u16 {
+    (x / 65536 % 65536) as u16
 }
 
-// An address: for each of its sixteen bytes, the low byte of the sixteen bits.
-fn address(seed: u32) -> [u8; 16]
-    ensures { λ r. ⌜ length r ≡ 16 ⌝ }
-{
-    let mut s = [0u8; 16];
+// A word from sixteen bits u: of each sixteen, 309h and 30Ah once, 200h eight times, a small byte four times, any twice.
+fn mixed(mode: u8, u: u16) -> u16 {
+    match u % 16 {
+        0 => 0x309,
+        1 => 0x30a,
+        10 | 11 | 12 | 13 => forms::byte_word(u / 16 % 4),
+        14 | 15 => forms::word_of(mode, u / 16),
+        _ => 0x200,
+    }
+}
+
+// A word of a kind from sixteen bits u: 0 0; 1 200h; 2 u; 3 its low ten bits; 8 and 9 the word of the mode of its low eight (nine)
+// bits; 18 and 19 a mixed word of the mode; 28 and 29 a value of the mode.
+fn word(kind: u64, u: u16) -> u16 {
+    match kind {
+        0 => 0,
+        1 => 0x200,
+        2 => u,
+        3 => u % 1024,
+        8 => forms::word_of(8, u),
+        18 => mixed(8, u),
+        19 => mixed(9, u),
+        28 => u % 256,
+        29 => u % 512,
+        _ => forms::word_of(9, u),
+    }
+}
+
+// Words of a kind, each from the next of the generator's numbers.
+pub(crate) fn words(out: &mut [u16], kind: u64, seed: u64) {
     let mut x = seed;
-    let mut i = 0usize;
-    while i < 16 {
+    let mut i = 0;
+    while i < out.len() {
         x = next(x);
-        s[i] = (upper(x) % 256) as u8;
+        out[i] = word(kind, upper(x));
         i += 1;
     }
-    s
 }
 
-// Settings: destination and source each from a seed, the last reserved byte, the others 0.
-pub(crate) fn settings_of(
-    code: u8,
-    aai: u8,
-    block: u8,
-    flag: u8,
-    reserved: u8,
-    to: u32,
-    from: u32,
-) -> Settings {
-    let destination = address(to);
-    let source = address(from);
-    Settings {
-        code: code,
-        aai: aai,
-        destination: destination,
-        source: source,
-        block: block,
-        flag: flag,
-        reserved: [0, 0, 0, 0, reserved],
+// The sixteen bytes of an address: for each, the low byte of the generator's sixteen bits.
+pub(crate) fn address(s: &mut [u64; 52], from: usize, seed: u64)
+    requires { ⌜ from ≤ 36 ⌝ }
+{
+    let mut x = seed;
+    let mut i = 0;
+    while i < 16 {
+        x = next(x);
+        s[from + i] = upper(x) as u64 % 256;
+        i += 1;
     }
-}
-
-// The code of a system.
-pub(crate) fn code_of(system: u8) -> u8 {
-    let s = systems::system_of(system);
-    s.code
 }

@@ -1,56 +1,77 @@
-// Which step does what, by the first letter of its name.
-use crate::desk;
-use crate::desk::Desk;
+// Which step does what, by the first letter of its name. What a step is, and its row, is said where it is done.
+use crate::calls;
 use crate::lay;
 use crate::lent;
+use crate::shown;
 use crate::states;
-use crate::steps;
 use crate::steps::Step;
-use reader::state::Reader;
 
-// Steps that lay words: `index INDEX WORD` at an index of the line; into the payload from a place on `words PLACE WORD ..`,
-// `data PLACE COUNT SEED` and `mix PLACE COUNT SEED`.
-fn lay_words(r: Reader, s: Step, ns: &[u32], line: &mut [u16]) {
-    let mode = r.mode;
-    let i = lent::index_of(r.system, steps::at(ns, 0));
-    let count = steps::at(ns, 1) as usize;
+// Steps that show.
+fn show(name: u8, ns: &[u64], rd: &[u64; 52], wr: &[u64; 52], hd: &[u64; 52], part: &[u16]) {
+    match name {
+        b'W' => shown::words(part),
+        b'S' => shown::sums(part),
+        b'H' => shown::header(ns, hd),
+        b'L' => shown::checked(ns, part),
+        b'T' => shown::state(ns, rd, wr),
+        _ => shown::impossible(rd, wr),
+    }
+}
+
+// Steps that call the writer.
+fn write(
+    name: u8,
+    ns: &[u64],
+    rd: &[u64; 52],
+    wr: &mut [u64; 52],
+    hd: &mut [u64; 52],
+    part: &mut [u16],
+) {
+    match name {
+        b'o' => calls::open_fresh(ns, rd, wr, hd, part),
+        b'O' => calls::open(ns, wr, hd, part),
+        b'A' => calls::add(ns, wr, part),
+        b'c' => calls::close(b"close", wr, part),
+        _ => calls::close(b"closed", wr, part),
+    }
+}
+
+// A step with the part of the line that it is lent.
+fn act(
+    s: Step,
+    ns: &[u64],
+    rd: &mut [u64; 52],
+    wr: &mut [u64; 52],
+    hd: &mut [u64; 52],
+    part: &mut [u16],
+    room: &mut [u16],
+) {
     let name = s.name;
     match name {
-        b'i' => lay::put(line, steps::at(ns, 0) as usize, steps::word_at(ns, 1)),
-        b'w' => lay::words(line, i, lent::within(s.spaces, 8), ns),
-        b'd' => lay::data(line, mode, i, count, steps::at(ns, 2)),
-        b'm' => lay::mix(line, mode, i, count, steps::at(ns, 2)),
+        b'n' => calls::fresh(ns, rd, wr),
+        b'o' | b'O' | b'A' | b'c' | b'C' => write(name, ns, rd, wr, hd, part),
+        b'r' => calls::read(ns, rd, part, room),
+        b'v' => shown::room(room),
+        b'i' | b'w' | b'd' | b'm' | b'M' => lay::lay(name, states::byte(rd[1]), ns, part),
+        b'l' | b'a' | b'p' | b's' => lay::put_reader(name, ns, rd),
+        b'P' => lay::put_into(s, ns, rd, wr, hd),
+        b'W' | b'S' | b'H' | b'L' | b'T' | b'I' => show(name, ns, rd, wr, hd, part),
         _ => {}
     }
 }
 
-// Steps that put the reader into a state: `last`, `at`, `phase`, `settings`, as in states.rt.
-fn put_into(r: Reader, name: u8, ns: &[u32]) -> Reader {
-    match name {
-        b'l' => states::with_last(r, states::last_of(ns)),
-        b'a' => states::with_place(r, states::place_of(ns)),
-        b'p' => states::with_phase(r, states::phase_of(ns)),
-        b's' => states::with_settings(r, states::settings_of(ns)),
-        _ => r,
-    }
-}
-
-// Plays a step. `view` shows the room; the others are said where they are done.
-pub(crate) fn play(d: Desk, s: Step, ns: &[u32], line: &mut [u16], room: &mut [u16]) -> Desk {
-    let name = s.name;
-    match name {
-        b'n' => desk::fresh_by(ns),
-        b'o' => desk::open(d, ns, line),
-        b'c' => desk::close(d, line),
-        b'r' => desk::read(d, ns, line, room),
-        b'v' => {
-            desk::show_room(room);
-            d
-        }
-        b'i' | b'w' | b'd' | b'm' => {
-            lay_words(d.reader, s, ns, line);
-            d
-        }
-        _ => desk::with_reader(d, put_into(d.reader, name, ns)),
-    }
+// Plays a step.
+pub(crate) fn play(
+    s: Step,
+    ns: &[u64],
+    rd: &mut [u64; 52],
+    wr: &mut [u64; 52],
+    hd: &mut [u64; 52],
+    line: &mut [u16],
+    room: &mut [u16],
+) {
+    let p = lent::part_of(s, states::byte(rd[0]), ns, line.len());
+    let from = p.from;
+    let to = p.to;
+    act(s, ns, rd, wr, hd, &mut line[from..to], room);
 }

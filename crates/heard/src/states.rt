@@ -1,78 +1,124 @@
-// A reader put into any state, possible or not, and a state's part of a row:
-// `last NUMBER|none place PLACE|none phase NUMBERS settings CODE AAI BLOCK FLAG`. The phase's numbers are 0 idle, 1 type awaited,
-// 2 to 5 a count byte awaited with the type and the bytes so far, 6 data with type, announced and collected.
-use crate::made;
-use crate::rows;
-use crate::steps;
+// A state as 52 numbers, so that a step can put it into any value, possible or not, and a row can show all of it:
+// 0 system, 1 mode, 2 whether there is a last number, 3 that number, 4 whether a line is begun (open), 5 the place in it;
+// 6 to 10 the reader's phase: 0 idle, 1 type awaited, 2 to 5 a count byte awaited with type and bytes so far, 6 data with type,
+// announced and collected; of the writer 6 to 9 whether a block is unfinished, and its type, n and words laid;
+// 11 code, 12 AAI, 13 block type, 14 flag, 15 to 30 destination, 31 to 46 source, 47 to 51 reserved.
+// What is not held is 0 in a state that a call left. A heading has the same form, and only its settings count.
 use course::Last;
 use course::Place;
 use line::settings::Settings;
 use reader::machine::Phase;
 use reader::state::Reader;
+use writer::state::Rest;
+use writer::state::Writer;
+ghost use mathlib.Core.Path.{_≡_};
+ghost use Prim.Native.Nat.{_+_, _≤_};
+ghost use lib.ListN.{length};
 
-// `last KNOWN NUMBER`
-pub(crate) fn last_of(ns: &[u32]) -> Last {
-    if steps::at(ns, 0) == 0 {
+pub(crate) fn byte(x: u64) -> u8 {
+    (x % 256) as u8
+}
+
+pub(crate) fn word(x: u64) -> u16 {
+    (x % 65536) as u16
+}
+
+fn last_of(s: &[u64; 52]) -> Last {
+    if s[2] == 0 {
         return Last::Unknown;
     }
-    Last::Number(steps::word_at(ns, 1))
+    Last::Number(word(s[3]))
 }
 
-// `at KNOWN PLACE`
-pub(crate) fn place_of(ns: &[u32]) -> Place {
-    if steps::at(ns, 0) == 0 {
+fn place_of(s: &[u64; 52]) -> Place {
+    if s[4] == 0 {
         return Place::Shut;
     }
-    Place::At(steps::at(ns, 1) as usize)
+    Place::At(s[5] as usize)
 }
 
-// `phase NUMBER TYPE`, with announced and collected for data. Count bytes are 1, 2 and 3.
-pub(crate) fn phase_of(ns: &[u32]) -> Phase {
-    let kind = steps::byte_at(ns, 1);
-    match steps::at(ns, 0) {
+fn phase_of(s: &[u64; 52]) -> Phase {
+    let kind = byte(s[7]);
+    let b0 = byte(s[8]);
+    let b1 = byte(s[9]);
+    let b2 = byte(s[10]);
+    match s[6] {
         0 => Phase::Idle,
         1 => Phase::Kind,
         2 => Phase::First { kind: kind },
-        3 => Phase::Second { kind: kind, b0: 1 },
+        3 => Phase::Second { kind: kind, b0: b0 },
         4 => Phase::Third {
             kind: kind,
-            b0: 1,
-            b1: 2,
+            b0: b0,
+            b1: b1,
         },
         5 => Phase::Fourth {
             kind: kind,
-            b0: 1,
-            b1: 2,
-            b2: 3,
+            b0: b0,
+            b1: b1,
+            b2: b2,
         },
         _ => Phase::Data {
             kind: kind,
-            announced: steps::at(ns, 2) as usize,
-            collected: steps::at(ns, 3) as usize,
+            announced: s[8] as usize,
+            collected: s[9] as usize,
         },
     }
 }
 
-// `settings CODE AAI BLOCK FLAG RESERVED DESTINATION SOURCE`
-pub(crate) fn settings_of(ns: &[u32]) -> Settings {
-    made::settings_of(
-        steps::byte_at(ns, 0),
-        steps::byte_at(ns, 1),
-        steps::byte_at(ns, 2),
-        steps::byte_at(ns, 3),
-        steps::byte_at(ns, 4),
-        steps::at(ns, 5),
-        steps::at(ns, 6),
-    )
+fn rest_of(s: &[u64; 52]) -> Rest {
+    if s[6] == 0 {
+        return Rest::Whole;
+    }
+    Rest::Part {
+        kind: byte(s[7]),
+        count: word(s[8]),
+        laid: word(s[9]),
+    }
 }
 
-pub(crate) fn with_last(st: Reader, last: Last) -> Reader {
-    let settings = st.settings;
-    let place = st.place;
-    let phase = st.phase;
+// Sixteen of the numbers as bytes.
+fn bytes_of(s: &[u64; 52], from: usize) -> [u8; 16]
+    requires { ⌜ from ≤ 36 ⌝ }
+    ensures { λ r. ⌜ length r ≡ 16 ⌝ }
+{
+    let mut bytes = [0u8; 16];
+    let mut i = 0;
+    while i < 16 {
+        bytes[i] = byte(s[from + i]);
+        i += 1;
+    }
+    bytes
+}
+
+pub(crate) fn settings_of(s: &[u64; 52]) -> Settings {
+    let destination = bytes_of(s, 15);
+    let source = bytes_of(s, 31);
+    Settings {
+        code: byte(s[11]),
+        aai: byte(s[12]),
+        destination: destination,
+        source: source,
+        block: byte(s[13]),
+        flag: byte(s[14]),
+        reserved: [
+            byte(s[47]),
+            byte(s[48]),
+            byte(s[49]),
+            byte(s[50]),
+            byte(s[51]),
+        ],
+    }
+}
+
+pub(crate) fn reader_of(s: &[u64; 52]) -> Reader {
+    let last = last_of(s);
+    let settings = settings_of(s);
+    let place = place_of(s);
+    let phase = phase_of(s);
     Reader {
-        system: st.system,
-        mode: st.mode,
+        system: byte(s[0]),
+        mode: byte(s[1]),
         last: last,
         settings: settings,
         place: place,
@@ -80,112 +126,17 @@ pub(crate) fn with_last(st: Reader, last: Last) -> Reader {
     }
 }
 
-pub(crate) fn with_place(st: Reader, place: Place) -> Reader {
-    let last = st.last;
-    let settings = st.settings;
-    let phase = st.phase;
-    Reader {
-        system: st.system,
-        mode: st.mode,
+pub(crate) fn writer_of(s: &[u64; 52]) -> Writer {
+    let last = last_of(s);
+    let settings = settings_of(s);
+    let place = place_of(s);
+    let rest = rest_of(s);
+    Writer {
+        system: byte(s[0]),
+        mode: byte(s[1]),
         last: last,
         settings: settings,
         place: place,
-        phase: phase,
+        rest: rest,
     }
-}
-
-pub(crate) fn with_phase(st: Reader, phase: Phase) -> Reader {
-    let last = st.last;
-    let settings = st.settings;
-    let place = st.place;
-    Reader {
-        system: st.system,
-        mode: st.mode,
-        last: last,
-        settings: settings,
-        place: place,
-        phase: phase,
-    }
-}
-
-pub(crate) fn with_settings(st: Reader, settings: Settings) -> Reader {
-    let last = st.last;
-    let place = st.place;
-    let phase = st.phase;
-    Reader {
-        system: st.system,
-        mode: st.mode,
-        last: last,
-        settings: settings,
-        place: place,
-        phase: phase,
-    }
-}
-
-fn put_last(last: Last) {
-    rows::say(b" last");
-    match last {
-        Last::Unknown => rows::say(b" none"),
-        Last::Number(n) => rows::put(n as u64),
-    }
-}
-
-fn put_place(place: Place) {
-    rows::say(b" place");
-    match place {
-        Place::Shut => rows::say(b" none"),
-        Place::At(q) => rows::put(q as u64),
-    }
-}
-
-fn put_two(a: u8, b: u8) {
-    rows::put(a as u64);
-    rows::put(b as u64);
-}
-
-fn put_data(kind: u8, announced: usize, collected: usize) {
-    put_two(6, kind);
-    rows::put(announced as u64);
-    rows::put(collected as u64);
-}
-
-fn put_phase(phase: Phase) {
-    rows::say(b" phase");
-    match phase {
-        Phase::Idle => rows::put(0),
-        Phase::Kind => rows::put(1),
-        Phase::First { kind } => put_two(2, kind),
-        Phase::Second { kind, b0 } => {
-            put_two(3, kind);
-            rows::put(b0 as u64);
-        }
-        Phase::Third { kind, b0, b1 } => {
-            put_two(4, kind);
-            put_two(b0, b1);
-        }
-        Phase::Fourth { kind, b0, b1, b2 } => {
-            put_two(5, kind);
-            put_two(b0, b1);
-            rows::put(b2 as u64);
-        }
-        Phase::Data {
-            kind,
-            announced,
-            collected,
-        } => put_data(kind, announced, collected),
-    }
-}
-
-// The state's part of a row.
-pub(crate) fn put_state(st: Reader) {
-    let last = st.last;
-    let place = st.place;
-    let phase = st.phase;
-    let t = st.settings;
-    put_last(last);
-    put_place(place);
-    put_phase(phase);
-    rows::say(b" settings");
-    put_two(t.code, t.aai);
-    put_two(t.block, t.flag);
 }

@@ -1,4 +1,4 @@
-// A step is a line of text: a name, whose first letter counts, and up to eight decimal numbers, each after one space.
+// A step is a line of text: a name, whose first letter counts, and up to 56 decimal numbers, each after one space.
 // A line that begins with # is a remark, and an empty line is nothing.
 
 // What was read beside the numbers: whether the text goes on, the name's first letter (0: none yet), and how many spaces came.
@@ -17,34 +17,26 @@ pub(crate) fn blank() -> Step {
 }
 
 // A number of the step. Where it has fewer, what an earlier step left stands there, and no step looks.
-pub(crate) fn at(ns: &[u32], k: usize) -> u32 {
+pub(crate) fn at(ns: &[u64], k: usize) -> u64 {
     if k < ns.len() {
         return ns[k];
     }
     0
 }
 
-pub(crate) fn byte_at(ns: &[u32], k: usize) -> u8 {
-    (at(ns, k) % 256) as u8
-}
-
-pub(crate) fn word_at(ns: &[u32], k: usize) -> u16 {
-    (at(ns, k) % 65536) as u16
-}
-
-fn set(ns: &mut [u32], k: usize, x: u32) {
+pub(crate) fn set(ns: &mut [u64], k: usize, x: u64) {
     if k < ns.len() {
         ns[k] = x;
     }
 }
 
-// A digit after the digits before it; of nine digits and more the last nine count.
-fn longer(x: u32, digit: u8) -> u32 {
-    x % 100000000 * 10 + digit as u32
+// A digit after the digits before it; of ten digits and more the last ten count.
+fn longer(x: u64, digit: u8) -> u64 {
+    x % 1000000000 * 10 + digit as u64
 }
 
 // A byte of a number, after that many spaces.
-fn take_digit(spaces: usize, b: u8, ns: &mut [u32]) {
+fn take_digit(spaces: usize, b: u8, ns: &mut [u64]) {
     if b < 48 {
         return;
     }
@@ -60,8 +52,8 @@ fn take_digit(spaces: usize, b: u8, ns: &mut [u32]) {
 }
 
 // The step after a space: another number begins.
-fn spaced(s: Step, ns: &mut [u32]) -> Step {
-    if 7 < s.spaces {
+fn spaced(s: Step, ns: &mut [u64]) -> Step {
+    if 55 < s.spaces {
         return s;
     }
     set(ns, s.spaces, 0);
@@ -73,7 +65,7 @@ fn spaced(s: Step, ns: &mut [u32]) -> Step {
 }
 
 // The step with one byte more.
-fn fed(s: Step, b: u8, ns: &mut [u32]) -> Step {
+fn fed(s: Step, b: u8, ns: &mut [u64]) -> Step {
     if s.name == 0 {
         return Step {
             more: true,
@@ -89,7 +81,7 @@ fn fed(s: Step, b: u8, ns: &mut [u32]) -> Step {
 }
 
 // Reads a step. At the end of the text no more is to come.
-pub(crate) fn read(fd: i32, ns: &mut [u32]) -> Step {
+pub(crate) fn read(fd: i32, ns: &mut [u64]) -> Step {
     let mut one = [0u8; 1];
     let mut s = blank();
     let mut turns = u64::MAX;

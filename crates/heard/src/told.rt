@@ -1,10 +1,9 @@
-// Events in a row: `refused ANSWER`, `begun NUMBER JUMP`, `block TYPE LENGTH REGISTER`, `drop REASON`, `end`. JUMP is a signed
+// The rows' parts that the reader says. Events: `refused ANSWER`, `begun NUMBER JUMP`, `block TYPE LENGTH REGISTER`, `drop REASON`, `end`. JUMP is a signed
 // number or `unknown`; `dropped` follows a refused or a begun that says so. REGISTER is the CRC register after the block's words.
 use crate::lent;
 use crate::rows;
 use reader::jump::Jump;
 use reader::state::Event;
-use words::crc;
 
 fn put_jump(jump: Jump) {
     match jump {
@@ -39,7 +38,7 @@ fn put_block(kind: u8, length: usize, room: &[u16]) {
     rows::say(b" block");
     rows::put(kind as u64);
     rows::put(length as u64);
-    rows::put(crc::crc_of(262143, &room[..n]) as u64);
+    rows::put_register(&room[..n]);
 }
 
 pub(crate) fn put_event(e: Event, room: &[u16]) {
@@ -84,4 +83,34 @@ pub(crate) fn is_last(e: Event) -> bool {
         Event::Drop { reason: _ } => false,
         Event::End => true,
     }
+}
+
+fn put_known(known: u64, x: u64) {
+    if known == 0 {
+        return rows::say(b" none");
+    }
+    rows::put(x);
+}
+
+// Where the numbers of a phase end among those of a state.
+fn phase_end(phase: u64) -> usize {
+    match phase {
+        0 | 1 => 7,
+        2 => 8,
+        3 => 9,
+        5 => 11,
+        _ => 10,
+    }
+}
+
+// The state's part of a row: `last NUMBER|none place PLACE|none phase NUMBERS settings CODE AAI BLOCK FLAG`, NUMBERS as in states.rt.
+pub(crate) fn put_state(s: &[u64; 52]) {
+    rows::say(b" last");
+    put_known(s[2], s[3]);
+    rows::say(b" place");
+    put_known(s[4], s[5]);
+    rows::say(b" phase");
+    rows::put_from(s, 6, phase_end(s[6]));
+    rows::say(b" settings");
+    rows::put_from(s, 11, 15);
 }

@@ -1,5 +1,5 @@
 -- `heard::lay::words` is safe and ends. Assumes nothing.
-use Prim.Native.Nat.{suc, _≤_, _-_}
+use Prim.Native.Nat.{_≤_, _-_}
 use lib.ListN.{length}
 use mathlib.Core.Path.{_≡_}
 use borrow.Author.Needs.{needs}
@@ -7,28 +7,31 @@ use Rattle.heard.proofs.lay.words.Statement.{statement}
 use Rattle.heard.proofs.lay.words.Tie as tie
 
 abbrev Inv-loop : tie.InvT-loop
-Inv-loop line₀ from count ns k₀ line k = (1 ≤ k) × (k ≤ suc count) × (length line ≡ length line₀)
+Inv-loop out₀ ns i₀ out i = (i ≤ length out₀) × (length out ≡ length out₀)
 
 abbrev μ-loop : tie.MeasureT-loop
-μ-loop line₀ from count ns k₀ line k = count - k
+μ-loop out₀ ns i₀ out i = length out₀ - i
 
 loop-holds : tie.Need-loop-holds Inv-loop μ-loop
 loop-holds c = search needs
 
-add-put : tie.Need-add-put Inv-loop μ-loop
-add-put c = search needs
+add-at : tie.Need-add-at Inv-loop μ-loop
+add-at c = search needs
 
-sub-put : tie.Need-sub-put Inv-loop μ-loop
-sub-put c = search needs
+at-requires : tie.Need-at-requires Inv-loop μ-loop
+at-requires c κs = search needs
 
-word-at-requires : tie.Need-word-at-requires Inv-loop μ-loop
-word-at-requires c κs = search needs
+word-requires : tie.Need-word-requires Inv-loop μ-loop
+word-requires c κs = search needs
 
-put-requires : tie.Need-put-requires Inv-loop μ-loop
-put-requires c κs = search needs
+mul-out : tie.Need-mul-out Inv-loop μ-loop
+mul-out c = search needs
 
-add-k : tie.Need-add-k Inv-loop μ-loop
-add-k c = search needs
+slice-write-out : tie.Need-slice-write-out Inv-loop μ-loop
+slice-write-out c = search needs
+
+add-i : tie.Need-add-i Inv-loop μ-loop
+add-i c = search needs
 
 loop-less : tie.Need-loop-less Inv-loop μ-loop
 loop-less c = search needs
@@ -49,11 +52,12 @@ words-spec =
     Inv-loop
     μ-loop
     loop-holds
-    add-put
-    sub-put
-    word-at-requires
-    put-requires
-    add-k
+    add-at
+    at-requires
+    word-requires
+    mul-out
+    slice-write-out
+    add-i
     loop-less
     loop-again
     same-length

@@ -1,16 +1,14 @@
--- `heard::made::address` meets its contract. Assumes nothing.
+-- `heard::made::address` is safe and ends. Assumes nothing.
 use Prim.Native.Nat.{_≤_, _-_}
-use lib.ListN.{length}
-use mathlib.Core.Path.{_≡_}
 use borrow.Author.Needs.{needs}
 use Rattle.heard.proofs.made.address.Statement.{statement}
 use Rattle.heard.proofs.made.address.Tie as tie
 
 abbrev Inv-loop : tie.InvT-loop
-Inv-loop seed s₀ x₀ i₀ s x i = (i ≤ 16) × (length s ≡ 16)
+Inv-loop s₀ from seed x₀ i₀ s x i = i ≤ 16
 
 abbrev μ-loop : tie.MeasureT-loop
-μ-loop seed s₀ x₀ i₀ s x i = 16 - i
+μ-loop s₀ from seed x₀ i₀ s x i = 16 - i
 
 loop-holds : tie.Need-loop-holds Inv-loop μ-loop
 loop-holds c = search needs
@@ -24,8 +22,14 @@ upper-requires c κs = search needs
 cast-s : tie.Need-cast-s Inv-loop μ-loop
 cast-s c = search needs
 
-array-write-s : tie.Need-array-write-s Inv-loop μ-loop
-array-write-s c = search needs
+add-s : tie.Need-add-s Inv-loop μ-loop
+add-s c = search needs
+
+mul-s : tie.Need-mul-s Inv-loop μ-loop
+mul-s c = search needs
+
+element-write-s : tie.Need-element-write-s Inv-loop μ-loop
+element-write-s c = search needs
 
 add-i : tie.Need-add-i Inv-loop μ-loop
 add-i c = search needs
@@ -49,7 +53,9 @@ address-spec =
     next-requires
     upper-requires
     cast-s
-    array-write-s
+    add-s
+    mul-s
+    element-write-s
     add-i
     loop-less
     loop-again

@@ -2,6 +2,7 @@
 use mathlib.Core.Path.{sym}
 use lib.Seq.{length-take-le}
 use borrow.Author.Needs.{needs}
+use borrow.Author.Needs.{needs}
 use Rattle.heard.proofs.told.put_block.Statement.{statement}
 use Rattle.heard.proofs.told.put_block.Tie as tie
 
@@ -20,17 +21,11 @@ put-requires c κs = search needs
 put-requires-2 : tie.Need-put-requires-2
 put-requires-2 c κs = search needs
 
-slice-aggregate-crc-of : tie.Need-slice-aggregate-crc-of
-slice-aggregate-crc-of c = sym (length-take-le _ _ (search needs))
+slice-aggregate-put-register : tie.Need-slice-aggregate-put-register
+slice-aggregate-put-register c = sym (length-take-le _ _ (search needs))
 
-crc-of-requires : tie.Need-crc-of-requires
-crc-of-requires c κs = search needs
-
-cast-put : tie.Need-cast-put
-cast-put c = search needs
-
-put-requires-3 : tie.Need-put-requires-3
-put-requires-3 c κs = search needs
+put-register-requires : tie.Need-put-register-requires
+put-register-requires c κs = search needs
 
 returns : tie.Need-returns
 returns c = search needs
@@ -44,8 +39,6 @@ put-block-spec =
     say-requires
     put-requires
     put-requires-2
-    slice-aggregate-crc-of
-    crc-of-requires
-    cast-put
-    put-requires-3
+    slice-aggregate-put-register
+    put-register-requires
     returns)

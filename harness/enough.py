@@ -1,0 +1,59 @@
+"""What the rows of crates/heard/stdout have to hold, so that files cut short do not pass."""
+import itertools
+
+from courses import ENDS
+from lines import BYTE_FORM, DATA_FORM, FILLER
+from words import VARIABLE
+
+# Rows of each name, and events of each kind in each mode
+ROWS = {"close": 1151, "read": 1700, "room": 157, "opened": 900, "added": 900, "closed": 350, "check": 992, "crc": 172, "header": 30}
+ROWS |= {"state": 1100, "impossible": 390, "words": 16}
+EVENTS = {"begun": 300, "begun dropped": 15, "begun with an open block": 50, "block": 1000, "end": 400, "refused 1": 80, "refused 2": 30}
+EVENTS |= {f"drop {k}": 4 for k in range(1, 7)} | {f"refused {k}{how}": 1 for k in range(3, 17) for how in ("", " dropped")}
+
+# What each call of the writer has to have answered, in each mode: 0 done or finished, 100 unfinished
+ANSWERS = {"opened": (0, 1, 2, *range(9, 15), 20), "added": (0, 100, 1, 2, 17, 18, 19, 20), "closed": (0, 1, 2, 20)}
+
+# Lists of a kind and a length, and how many
+LISTS = {(FILLER, 1438): 1, (FILLER, 1918): 1, (BYTE_FORM, 5): 6, (BYTE_FORM, 40): 6, (DATA_FORM, 1438): 6, (DATA_FORM, 1918): 6}
+
+
+def reader(scope):
+    """What the reader has to have met: drops by their place, jumps, fixed blocks."""
+    yield from (("drop", *x) for x in itertools.product((8, 9), range(1, 7), ("first", "middle", "last")))
+    for system, (_, _, lines) in scope.systems.items():
+        yield from (("jump", system, jump) for jump in (None, 0, -1, 1, lines // 2, -(lines // 2)))
+    for kind, (_, *places) in scope.fixed.items():
+        yield from (("fixed", kind, rate) for rate in (0, 1) if places[rate])
+
+
+def writer(scope):
+    """What the writer has to have met: each answer, a line of each system and mode, an impossible state in each system, 01's run-only cases."""
+    for name, answers in ANSWERS.items():
+        yield from ((name, "mode", mode, answer) for mode in (8, 9) for answer in answers)
+        yield from ((name, "system", system, answer) for system in scope.systems for answer in (0, 2))
+    yield from (("fresh", system, mode) for system in scope.systems for mode in (8, 9))
+    yield from (("impossible", *both) for both in [(0, 0), (0, 1), (1, 0)])
+    yield from (("end", mode, flag, ENDS[flag] + more, more == 1) for mode in (8, 9) for flag in (0, 1) for more in (0, 1))
+
+
+def check(scope):
+    """What the line check has to have met: each answer in each system, a good line of each kind."""
+    yield from (("check", system, answer) for system in scope.systems for answer in (0, 1, *range(3, 17)))
+    yield from (("good", *kind) for kind in itertools.product(scope.systems, (8, 9), (VARIABLE, 0x21), (0, 1)))
+
+
+def missing(scope, play):
+    """What the rows have to hold and do not."""
+    for name, n in ROWS.items():
+        if sum(row[0] == name for row in play.rows) < n:
+            yield f"fewer than {n} rows {name}"
+    for mode, (name, n) in itertools.product((8, 9), EVENTS.items()):
+        if play.events[mode, name] < n:
+            yield f"fewer than {n} events {name} in mode {mode}"
+    for kind, n in LISTS.items():
+        if play.seen["crc", kind] < n:
+            yield f"fewer than {n} lists of kind and length {kind}"
+    for what in itertools.chain(reader(scope), writer(scope), check(scope)):
+        if not play.seen[what]:
+            yield f"nowhere {what}"

@@ -1,0 +1,240 @@
+"""The steps of crates/heard/stdin, played by the reader and the writer of 01. What a step does is said in crates/heard/src, where it is done."""
+import collections
+import sys
+
+from answers import answer
+from reader import IDLE, Reader, said
+from states import COUNT, HEADING, READER, SETTINGS, WRITER, of_phase, to_numbers, to_reader, to_writer
+from words import VARIABLE, by_python, byte_form, checksum, crc_of, crc_words, header, made, settings_by, word_of
+from writer import DONE, Writer
+
+BUFFER = 2305  # words of the line's buffer
+
+
+class Register:
+    """A register that Digest::CRC is still to compute, in a row."""
+
+    def __init__(self, words):
+        self.words = tuple(words)
+
+
+def mixed(mode, u):
+    k = u % 16
+    if k < 2:
+        return (0x309, 0x30A)[k]
+    if k < 10:
+        return 0x200
+    return byte_form(u // 16 % 4) if k < 14 else word_of(mode, u // 16)
+
+
+def made_words(kind, count, seed):
+    """Words of a kind: the list in crates/heard/src/made.rt, written again."""
+    make = {0: lambda u: 0, 1: lambda u: 0x200, 2: lambda u: u, 3: lambda u: u & 0x3FF, 28: lambda u: u & 0xFF, 29: lambda u: u & 0x1FF}
+    for mode in 8, 9:
+        make[mode] = lambda u, mode=mode: word_of(mode, u)
+        make[mode + 10] = lambda u, mode=mode: mixed(mode, u)
+    return [make[kind](u) for u in made(seed, count)]
+
+
+class Play:
+    """Each step is a method; a capital letter of a step is `big_` of a method. `rows` are the rows to be expected."""
+
+    def __init__(self, scope):
+        self.scope, self.line, self.room, self.rows = scope, [0] * BUFFER, [0] * 16385, []
+        self.states = [[0] * COUNT for _ in range(3)]
+        self.seen = collections.Counter()  # what happened, by a name and what it happened to
+        self.events = collections.Counter()  # by mode and name, with the number of a drop or a refusal
+        self.made, self.covered = None, []
+
+    def step(self, text):
+        name, *numbers = text.split(" ")
+        method = getattr(self, f"big_{name.lower()}" if name[0].isupper() else name, None)
+        if not callable(method) or not all(x.isdigit() for x in numbers):
+            sys.exit(f"harness: no step of ours: {text}")
+        method(*map(int, numbers))
+
+    # States
+
+    def new(self, system, mode):
+        self.states[READER] = to_numbers(Reader(self.scope, system, mode))
+        self.states[WRITER] = to_numbers(Writer(self.scope, system, mode))
+
+    def big_put(self, which, first, *numbers):
+        self.states[which][first : first + len(numbers)] = numbers
+
+    def last(self, known, number=0):
+        self.big_put(READER, 2, known, number)
+
+    def at(self, known, place=0):
+        self.big_put(READER, 4, known, place)
+
+    def phase(self, number, kind=0, announced=0, collected=0):
+        self.big_put(READER, 6, number, kind, *((1, 2, 3) if number < 6 else (announced, collected, 3)))
+
+    def settings(self, *values):
+        self.big_put(READER, SETTINGS, *settings_by(*values))
+
+    def big_tell(self, which):
+        system, mode = self.states[which][:2]
+        self.seen["fresh", system, mode] += which == WRITER and self.states[which] == to_numbers(Writer(self.scope, system, mode))
+        self.rows.append(["state", *self.states[which]])
+
+    def big_impossible(self):
+        both = [int(to_reader(self.scope, self.states[READER]).impossible()), int(to_writer(self.scope, self.states[WRITER]).impossible())]
+        self.seen["impossible", *both] += 1
+        self.rows.append(["impossible", *both])
+
+    # Words of the line
+
+    def system(self):
+        return self.states[READER][0]
+
+    def lay(self, place, words):
+        length, payload, _ = self.scope.systems[self.system()]
+        self.put_words(length - payload + place, words)
+
+    def put_words(self, index, words):
+        words = words[: BUFFER - index]
+        self.line[index : index + len(words)] = words
+
+    def words(self, place, *words):
+        self.lay(place, words)
+
+    def index(self, index, word):
+        self.put_words(index, [word])
+
+    def data(self, place, count, seed):
+        self.lay(place, made_words(self.states[READER][1], count, seed))
+
+    def mix(self, place, count, seed):
+        self.lay(place, made_words(self.states[READER][1] + 10, count, seed))
+
+    def big_make(self, index, count, kind, seed):
+        self.made = kind, count
+        self.put_words(index, made_words(kind, count, seed))
+
+    # The writer's calls
+
+    def lent(self, length, call):
+        """Calls the writer with so many words of the line: the answer, and the register after them."""
+        line = self.line[:length]
+        writer = to_writer(self.scope, self.states[WRITER])
+        given = call(writer, line)
+        self.line[:length], self.states[WRITER] = line, to_numbers(writer)
+        return given, Register(line)
+
+    def open_by(self, length, number, timing):
+        values = self.states[HEADING][SETTINGS:]
+        return self.lent(length, lambda w, line: w.open(timing & 1, timing >> 1 & 1, number, values, line))
+
+    def open(self, number, timing, aai, block, flag, to, source):
+        system, mode = self.states[READER][:2]
+        self.states[WRITER] = to_numbers(Writer(self.scope, system, mode))
+        self.big_put(HEADING, SETTINGS, *settings_by(self.scope.code(system), aai, block, flag, 0, to, source))
+        self.open_by(self.scope.systems[system][0], number, timing)
+
+    def big_open(self, length, number, timing):
+        self.tell_call("opened", *self.open_by(length, number, timing))
+
+    def close(self):
+        length = self.scope.systems[self.system()][0]
+        self.rows.append(["close", *self.lent(length, Writer.close)])
+
+    def big_close(self, length):
+        self.tell_call("closed", *self.lent(length, Writer.close))
+
+    def big_add(self, length, kind, count, seed, place, value):
+        mode = self.states[WRITER][1]
+        values = made_words(28 if mode == 8 else 29, count, seed)
+        values[place : place + 1] = [value] * (place < count)
+        begun = self.states[WRITER][6]
+        given, register = self.lent(length, lambda w, line: w.add(kind, values, line))
+        self.tell_call("added", given, register)
+        if given == DONE:
+            self.see_end(count, begun)
+
+    def tell_call(self, name, given, register):
+        system, mode = self.states[WRITER][:2]
+        self.seen[name, "system", system, given] += 1
+        self.seen[name, "mode", mode, given] += 1
+        self.rows.append([name, given, register])
+
+    def see_end(self, count, begun):
+        """01's run-only cases: 30Ah on the last word of an area, or first on the next line."""
+        w = to_writer(self.scope, self.states[WRITER])
+        start, end, _ = w.sizes()
+        if self.line[start + w.place - 1] == 0x30A and (w.place == end or (begun and w.place == 1)):
+            self.seen["end", w.mode, w.settings[3], count, w.place == 1] += 1
+
+    # The reader's calls
+
+    def read(self, times, length, room):
+        row, reader = ["read"], to_reader(self.scope, self.states[READER])
+        for _ in range(times):
+            lent = self.room[:room]
+            event = reader.read(self.line[:length], lent)
+            self.room[:room] = lent
+            row += [said(event), Register(lent[: event[2]])] if event[0] == "block" else [said(event)]
+            self.count(reader, event)
+            if event[0] in ("refused", "end"):
+                break
+        self.states[READER] = to_numbers(reader)
+        self.rows.append(row + state_text(reader))
+
+    def count(self, r, event):
+        name = event[0]
+        if name in ("drop", "refused"):
+            name += f" {event[1]}"
+        if name == "begun" and r.phase != IDLE:
+            name += " with an open block"
+        if event[0] in ("begun", "refused") and event[-1]:
+            name += " dropped"
+        self.events[r.mode, name] += 1
+        if event[0] == "drop":
+            self.seen["drop", r.mode, event[1], {1: "first", r.sizes()[1]: "last"}.get(r.place, "middle")] += 1
+        if event[0] == "begun":
+            self.seen["jump", r.system, event[2]] += 1
+        if event[0] == "block" and r.settings[2] != VARIABLE:
+            self.seen["fixed", r.settings[2] & 0x3F, r.system // 2] += 1
+
+    # What is shown
+
+    def view(self):
+        self.rows.append(["room", Register(self.room)])
+
+    def big_words(self, index, count):
+        self.rows.append(["words", *self.line[index : index + count]])
+
+    def big_sum(self, index, count):
+        """The register is Digest::CRC's, its words are crccheck's."""
+        words = self.line[index : index + count]
+        self.seen["crc", self.made] += self.made[1] == count
+        self.rows.append(["crc", Register(words), *crc_words(by_python([words])[0]), checksum(words)])
+
+    def big_header(self, number):
+        h = header(number, self.states[HEADING][SETTINGS:], crc_of, crc_of)
+        self.covered += [h[3:8], h[10:50]]
+        self.rows.append(["header", *h])
+
+    def big_line(self, length, system, mode):
+        line = self.line[:length]
+        fault, number, values = answer(self.scope, system, mode, line)
+        self.seen["check", system, fault] += 1
+        if fault == 0:
+            self.seen["good", system, mode, *values[2:4]] += 1
+        self.rows.append(["check", Register(line), fault, number, *(values or [0] * 41)])
+
+
+def state_text(r):
+    """A reader's state at the end of a row."""
+    shown = ["none" if x is None else x for x in (r.last, r.place)]
+    return ["last", shown[0], "place", shown[1], "phase", *of_phase(r.phase), "settings", *r.settings[:4]]
+
+
+def played(scope, text):
+    """The model after all steps."""
+    play = Play(scope)
+    for step in text.splitlines():
+        if not step.startswith("#"):
+            play.step(step)
+    return play

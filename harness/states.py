@@ -1,0 +1,49 @@
+"""A state as 52 numbers, in the order that is said at the top of crates/heard/src/states.rt."""
+from reader import IDLE, TYPE, Reader
+from writer import Writer
+
+COUNT = 52
+SETTINGS = 11  # where the settings begin
+READER, WRITER, HEADING = range(3)
+
+
+def held(x):
+    """Whether there is a number, and which."""
+    return [0, 0] if x is None else [1, x]
+
+
+def of_phase(phase):
+    """0 idle, 1 type awaited, 2 to 5 a count byte awaited, 6 data."""
+    name, *values = phase
+    return [{"idle": 0, "type": 1, "count": 1 + len(values), "data": 6}[name], *values]
+
+
+def to_numbers(state):
+    """The numbers of a reader or a writer."""
+    if isinstance(state, Reader):
+        five = of_phase(state.phase)
+    else:
+        five = [0] if state.rest is None else [1, *state.rest]
+    five += [0] * (5 - len(five))
+    return [state.system, state.mode, *held(state.last), *held(state.place), *five, *state.settings]
+
+
+def fill(state, numbers):
+    state.last = numbers[3] if numbers[2] else None
+    state.place = numbers[5] if numbers[4] else None
+    state.settings = numbers[SETTINGS:]
+    return state
+
+
+def to_reader(scope, numbers):
+    reader = fill(Reader(scope, *numbers[:2]), numbers)
+    phase, kind, *values = numbers[6:SETTINGS]
+    counts = [("count", kind, *values[:n]) for n in range(4)]
+    reader.phase = [IDLE, TYPE, *counts, ("data", kind, *values[:2])][phase]
+    return reader
+
+
+def to_writer(scope, numbers):
+    writer = fill(Writer(scope, *numbers[:2]), numbers)
+    writer.rest = tuple(numbers[7:10]) if numbers[6] else None
+    return writer

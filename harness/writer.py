@@ -1,0 +1,94 @@
+"""The writer of 01, written from 01 and not from our code."""
+from course import MOST, Course
+from words import VARIABLE, block_words, byte_form, crc_of, opened_line, settings_fault, word_of
+
+DONE, UNFINISHED = 0, 100
+
+
+class Writer(Course):
+    """A call gives DONE (adding: finished), UNFINISHED, or the number of a refusal."""
+
+    rest = None  # an unfinished block: type, n, words laid
+
+    def impossible(self):
+        if self.impossible_with(self.rest is not None):
+            return True
+        if self.rest is None:
+            return False
+        _, n, laid = self.rest
+        return n > MOST or not 1 <= laid <= n + 6
+
+    def refused(self, line):
+        """What each call is refused for first."""
+        if not self.fits(line):
+            return 1
+        return 2 if self.impossible() else 0
+
+    def open(self, f, v, number, values, line):
+        fault = self.refused(line)
+        if fault:
+            return fault
+        if not 1 <= number <= self.scope.systems[self.system][2]:
+            return 9
+        fault = settings_fault(self.scope, self.system, values)
+        if fault:
+            return fault
+        if self.place is not None or (self.rest and (values != self.settings or number != self.next_number())):
+            return 20
+        line[:] = opened_line(self.scope, self.system, f, v, number, values)
+        self.last, self.settings, self.place = number, values, 0
+        return DONE
+
+    def ill_shaped(self, kind, n):
+        if n > MOST or kind > 0xFF:
+            return True
+        if self.place is None or self.settings[2] == VARIABLE:
+            return False
+        return n != self.sizes()[2] - 1 or kind == 0
+
+    def add_fault(self, kind, values, line):
+        fault = self.refused(line)
+        if fault:
+            return fault
+        if any(v > (255 if self.mode == 8 else 511) for v in values):
+            return 17
+        if self.ill_shaped(kind, len(values)):
+            return 18
+        if self.place is None:
+            return 20
+        if self.place == self.sizes()[1]:
+            return 19
+        return 20 if self.rest and self.rest[:2] != (kind, len(values)) else 0
+
+    def words(self, kind, values):
+        """The words of a block."""
+        data = [word_of(self.mode, v) for v in values]
+        return block_words(kind, data) if self.settings[2] == VARIABLE else [byte_form(kind), *data]
+
+    def add(self, kind, values, line):
+        fault = self.add_fault(kind, values, line)
+        if fault:
+            return fault
+        start, end, _ = self.sizes()
+        whole = self.words(kind, values)
+        laid = self.rest[2] if self.rest else 0
+        words = whole[laid:][: end - self.place]
+        line[start + self.place : start + self.place + len(words)] = words
+        self.place += len(words)
+        laid += len(words)
+        self.rest = None if laid == len(whole) else (kind, len(values), laid)
+        return UNFINISHED if self.rest else DONE
+
+    def close(self, line):
+        fault = self.refused(line)
+        if fault:
+            return fault
+        if self.place is None:
+            return 20
+        start, end, _ = self.sizes()
+        if self.rest and self.place < end:
+            return 20
+        if self.settings[3] == 1:
+            line[-2:] = crc_of(line[start:-2])
+        self.place = None
+        return DONE
