@@ -77,7 +77,7 @@ fn next_line(kept: Kept, room: &mut [u16; 16384]) -> Kept {
         };
     }
     let mut line = [0u16; 1716];
-    rows::words_of(&bytes, &mut line);
+    octets::words_of(&bytes, &mut line);
     let after = list_line(st, &line, room);
     Kept {
         state: after,

@@ -19,7 +19,7 @@ fn letter_at(i: usize) -> u8 {
 fn number_at(i: usize) -> u16 {
     let mut word = [0u8; 8];
     let n = os::arg(i, &mut word);
-    rows::number_of(&word[..n])
+    octets::number_of(&word[..n])
 }
 
 pub(crate) fn by_words() -> Asked {

@@ -1,4 +1,2 @@
-pub mod BytesLaws
 pub mod TextLaws
 pub mod RowLaws
-pub mod NumberLaws

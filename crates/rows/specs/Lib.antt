@@ -1,5 +1,3 @@
 pub mod Text
 pub mod Rows
-pub mod Bytes
 pub mod Cuts
-pub mod Numbers

@@ -13,7 +13,7 @@ pub struct Damage {
 fn number_at(i: usize) -> u16 {
     let mut word = [0u8; 8];
     let n = os::arg(i, &mut word);
-    rows::number_of(&word[..n])
+    octets::number_of(&word[..n])
 }
 
 // The word is this one.

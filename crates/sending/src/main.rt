@@ -95,7 +95,7 @@ fn fill_line(kept: Kept, fixed: bool, line: &mut [u16]) -> Kept {
 // The line as bytes.
 fn write_line(line: &[u16; 1716]) {
     let mut bytes = [0u8; 3432];
-    rows::bytes_of(line, &mut bytes);
+    octets::bytes_of(line, &mut bytes);
     io::write_all(STDOUT_FILENO, &bytes);
 }
 

@@ -1,14 +1,14 @@
--- `rows::number_of` meets its contract. Assumes nothing.
+-- `octets::number_of` meets its contract. Assumes nothing.
 use mathlib.Core.Path.{_≡_, refl, sym, ap, _∙_}
 use Prim.Native.Nat.{ℕ, _+_, _-_, _≤_}
 use denote.Ref.{now}
 use lib.ListN.{length, drop, drop-of-length-le}
 use Rattle.lists.proofs.Loops.{next-drop}
-use Rattle.rows.specs.Numbers.{digitsMore}
-use Rattle.rows.proofs.NumberLaws.{empty, some}
+use Rattle.octets.specs.Numbers.{digitsMore}
+use Rattle.octets.proofs.NumberLaws.{empty, some}
 use borrow.Author.Needs.{needs}
-use Rattle.rows.proofs.number_of.Statement.{statement}
-use Rattle.rows.proofs.number_of.Tie as tie
+use Rattle.octets.proofs.number_of.Statement.{statement}
+use Rattle.octets.proofs.number_of.Tie as tie
 
 abbrev Inv-loop : tie.InvT-loop
 Inv-loop text x₀ i₀ x i = (i ≤ length text) × (digitsMore x (drop i text) ≡ digitsMore 0 text)

@@ -7,7 +7,7 @@ use native.Mathlib.Nat.{zero-add}
 use native.Mathlib.Omega.{arith}
 use lib.ListN.{length, set, getD}
 use lib.Seq.{paste, paste-suc}
-use Rattle.rows.specs.Bytes.{wordsOf, bytesOf}
+use Rattle.octets.specs.Bytes.{wordsOf, bytesOf}
 
 halves : (n : ℕ) → suc (n / 2) ≡ suc (suc n) / 2
 halves n = omega arith

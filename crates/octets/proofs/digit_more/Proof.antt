@@ -1,8 +1,8 @@
--- `rows::digit_more` meets its contract. Assumes nothing.
-use Rattle.rows.proofs.NumberLaws.{large, below, above, digit}
+-- `octets::digit_more` meets its contract. Assumes nothing.
+use Rattle.octets.proofs.NumberLaws.{large, below, above, digit}
 use borrow.Author.Needs.{needs}
-use Rattle.rows.proofs.digit_more.Statement.{statement}
-use Rattle.rows.proofs.digit_more.Tie as tie
+use Rattle.octets.proofs.digit_more.Statement.{statement}
+use Rattle.octets.proofs.digit_more.Tie as tie
 
 returns : tie.Need-returns
 returns c = let a = c .before .args in large (a .x) (a .b) (search needs)

@@ -1,4 +1,4 @@
--- `rows::words_of` meets its contract. Assumes nothing.
+-- `octets::words_of` meets its contract. Assumes nothing.
 use mathlib.Core.Path.{_≡_, refl, sym, ap, ap₂, _∙_}
 use mathlib.Core.List.{List}
 use Prim.Native.Nat.{ℕ, _+_, _-_, _/_, _<_, _≤_, min}
@@ -8,11 +8,11 @@ use native.Mathlib.Omega.{arith}
 use denote.Ref.{now}
 use lib.ListN.{length, set, getD}
 use lib.Seq.{paste, paste-zero, paste-suc}
-use Rattle.rows.specs.Bytes.{wordsOf}
-use Rattle.rows.proofs.BytesLaws.{length-words, word-at}
+use Rattle.octets.specs.Bytes.{wordsOf}
+use Rattle.octets.proofs.BytesLaws.{length-words, word-at}
 use borrow.Author.Needs.{needs}
-use Rattle.rows.proofs.words_of.Statement.{statement}
-use Rattle.rows.proofs.words_of.Tie as tie
+use Rattle.octets.proofs.words_of.Statement.{statement}
+use Rattle.octets.proofs.words_of.Tie as tie
 
 abbrev Inv-loop : tie.InvT-loop
 Inv-loop bytes out₀ n i₀ out i = (i ≤ n) × (n ≡ min (length bytes / 2) (length out₀)) × (length out ≡ length out₀) × (out ≡ paste out₀ 0 (wordsOf bytes) i)

@@ -1,4 +1,4 @@
--- `rows::bytes_of` meets its contract. Assumes nothing.
+-- `octets::bytes_of` meets its contract. Assumes nothing.
 use mathlib.Core.Path.{_≡_, refl, ap, ap₂, _∙_}
 use mathlib.Core.List.{List}
 use Prim.Native.Nat.{ℕ, _+_, _-_, _*_, _/_, _%_, _<_, _≤_, min}
@@ -6,11 +6,11 @@ use native.Mathlib.Omega.{arith}
 use denote.Ref.{now}
 use lib.ListN.{length, set, getD, length-set}
 use lib.Seq.{paste, paste-zero}
-use Rattle.rows.specs.Bytes.{bytesOf}
-use Rattle.rows.proofs.BytesLaws.{next-two}
+use Rattle.octets.specs.Bytes.{bytesOf}
+use Rattle.octets.proofs.BytesLaws.{next-two}
 use borrow.Author.Needs.{needs}
-use Rattle.rows.proofs.bytes_of.Statement.{statement}
-use Rattle.rows.proofs.bytes_of.Tie as tie
+use Rattle.octets.proofs.bytes_of.Statement.{statement}
+use Rattle.octets.proofs.bytes_of.Tie as tie
 
 abbrev Inv-loop : tie.InvT-loop
 Inv-loop words out₀ n i₀ out i = (i ≤ n) × (n ≡ min (length words) (length out₀ / 2)) × (length out ≡ length out₀) × (out ≡ paste out₀ 0 (bytesOf words) (2 * i))

@@ -9,7 +9,7 @@ use lib.Dec.{ltb, leb}
 use lib.ListN.{length}
 use borrow.Author.Tests.{lt-ltb, le-ltb, le-leb, lt-leb}
 use Rattle.lists.proofs.Tests.{pick-true, pick-false}
-use Rattle.rows.specs.Numbers.{digitMore, digitsMore, numberOf}
+use Rattle.octets.specs.Numbers.{digitMore, digitsMore, numberOf}
 
 pub large : (x b : ℕ) → 1000 ≤ x → 10000 ≡ digitMore x b
 unfolding digitMore
