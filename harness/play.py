@@ -9,6 +9,8 @@ from words import VARIABLE, by_python, byte_form, checksum, crc_of, crc_words, h
 from writer import DONE, Writer
 
 BUFFER = 2305  # words of the line's buffer
+STEPS = {"new", "open", "close", "words", "index", "data", "mix", "read", "view", "last", "at", "phase", "settings"}
+STEPS |= {"Put", "Tell", "Impossible", "Make", "Open", "Add", "Close", "Words", "Sum", "Header", "Line"}
 
 
 class Register:
@@ -48,10 +50,10 @@ class Play:
 
     def step(self, text):
         name, *numbers = text.split(" ")
-        method = getattr(self, f"big_{name.lower()}" if name[0].isupper() else name, None)
-        if not callable(method) or not all(x.isdigit() for x in numbers):
+        if name not in STEPS or not all(x.isdigit() for x in numbers):
             sys.exit(f"harness: no step of ours: {text}")
-        method(*map(int, numbers))
+        method = f"big_{name.lower()}" if name[0].isupper() else name
+        getattr(self, method)(*map(int, numbers))
 
     # States
 

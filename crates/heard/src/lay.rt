@@ -1,6 +1,7 @@
-// Steps that lay words into the part of the line that they are lent, and steps that put numbers into a state.
+// Steps that lay words into the part of the line that they are lent, and steps that put numbers into a state or tell them.
 use crate::lent;
 use crate::made;
+use crate::shown;
 use crate::states;
 use crate::steps;
 use crate::steps::Step;
@@ -23,13 +24,14 @@ fn words(out: &mut [u16], ns: &[u64]) {
 
 // `index INDEX WORD` at an index of the line; into the payload from a place on `words PLACE WORD ..`, `data PLACE COUNT SEED` and
 // `mix PLACE COUNT SEED`; `Make INDEX COUNT KIND SEED` from an index of the line on, the kind as in made.rt.
-pub(crate) fn lay(name: u8, mode: u8, ns: &[u64], out: &mut [u16]) {
+pub(crate) fn lay(name: u8, mode: u64, ns: &[u64], out: &mut [u16]) {
     let seed = steps::at(ns, 2);
     match name {
-        b'd' => made::words(out, mode as u64, seed),
-        b'm' => made::words(out, mode as u64 + 10, seed),
+        b'd' => made::words(out, mode, seed),
+        b'm' => made::words(out, mode % 256 + 10, seed),
         b'M' => made::words(out, seed, steps::at(ns, 3)),
-        _ => words(out, ns),
+        b'i' | b'w' => words(out, ns),
+        _ => {}
     }
 }
 
@@ -44,19 +46,12 @@ fn put_from(s: &mut [u64; 52], spaces: usize, ns: &[u64]) {
     }
 }
 
-// `Put WHICH FROM NUMBER ..`: numbers of a state; WHICH is 0 for the reader, 1 for the writer, and 2 for the heading.
-pub(crate) fn put_into(
-    s: Step,
-    ns: &[u64],
-    rd: &mut [u64; 52],
-    wr: &mut [u64; 52],
-    hd: &mut [u64; 52],
-) {
-    match steps::at(ns, 0) {
-        0 => put_from(rd, s.spaces, ns),
-        1 => put_from(wr, s.spaces, ns),
-        _ => put_from(hd, s.spaces, ns),
+// `Put WHICH FROM NUMBER ..`: numbers of a state; or `Tell WHICH`.
+pub(crate) fn put_or_tell(step: Step, ns: &[u64], s: &mut [u64; 52]) {
+    if step.name == b'T' {
+        return shown::state(s);
     }
+    put_from(s, step.spaces, ns);
 }
 
 // The settings of a state: its addresses from two seeds, of the reserved bytes the last.
@@ -81,12 +76,15 @@ fn settings(s: &mut [u64; 52], ns: &[u64]) {
 
 // `phase NUMBER TYPE`, with announced and collected for data. Count bytes are 1, 2 and 3.
 fn phase(s: &mut [u64; 52], ns: &[u64]) {
-    let number = steps::at(ns, 0);
-    s[6] = number;
+    s[6] = steps::at(ns, 0);
     s[7] = steps::at(ns, 1);
-    s[8] = if number < 6 { 1 } else { steps::at(ns, 2) };
-    s[9] = if number < 6 { 2 } else { steps::at(ns, 3) };
+    s[8] = 1;
+    s[9] = 2;
     s[10] = 3;
+    if 5 < s[6] {
+        s[8] = steps::at(ns, 2);
+        s[9] = steps::at(ns, 3);
+    }
 }
 
 // The reader's part put into a value: `last KNOWN NUMBER`, `at KNOWN PLACE`, `phase`, `settings`.

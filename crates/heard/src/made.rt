@@ -41,6 +41,11 @@ fn word(kind: u64, u: u16) -> u16 {
     }
 }
 
+// The kind of a mode's values.
+pub(crate) fn kind_of_values(mode: u64) -> u64 {
+    if mode == 8 { 28 } else { 29 }
+}
+
 // Words of a kind, each from the next of the generator's numbers.
 pub(crate) fn words(out: &mut [u16], kind: u64, seed: u64) {
     let mut x = seed;

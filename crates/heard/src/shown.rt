@@ -5,6 +5,7 @@ use crate::states;
 use crate::steps;
 use line::check;
 use line::header;
+use line::settings::Settings;
 use words::checksum;
 use words::crc;
 
@@ -42,43 +43,52 @@ pub(crate) fn header(ns: &[u64], hd: &[u64; 52]) {
     rows::end();
 }
 
+// All settings, in the order of states.rt.
+fn put_settings(t: Settings) {
+    let mut s = [0u64; 52];
+    kept::keep_settings(&mut s, t);
+    rows::put_from(&s, 11, 52);
+}
+
 // `Line LENGTH SYSTEM MODE`, row `check REGISTER FAULT NUMBER SETTINGS`: the line check's whole answer, the settings as in states.rt.
 pub(crate) fn checked(ns: &[u64], line: &[u16]) {
     let system = states::byte(steps::at(ns, 1));
     let c = check::check(system, states::byte(steps::at(ns, 2)), line);
-    let mut s = [0u64; 52];
-    let t = c.settings;
-    kept::keep_settings(&mut s, t);
     rows::say(b"check");
     rows::put_register(line);
     rows::put(c.fault as u64);
     rows::put(c.number as u64);
-    rows::put_from(&s, 11, 52);
+    put_settings(c.settings);
     rows::end();
 }
 
 // `Tell WHICH`, row `state NUMBER ..`: all numbers of a state.
-pub(crate) fn state(ns: &[u64], rd: &[u64; 52], wr: &[u64; 52]) {
+pub(crate) fn state(s: &[u64; 52]) {
     rows::say(b"state");
-    if steps::at(ns, 0) == 0 {
-        rows::put_from(rd, 0, 52);
-    } else {
-        rows::put_from(wr, 0, 52);
-    }
+    rows::put_from(s, 0, 52);
     rows::end();
 }
 
-fn put_bool(b: bool) {
-    if b {
-        return rows::put(1);
+// 1 where a reader's state is impossible.
+fn reader_bit(rd: &[u64; 52]) -> u64 {
+    if reader::state::is_impossible(states::reader_of(rd)) {
+        return 1;
     }
-    rows::put(0);
+    0
 }
 
-// `Impossible`, row `impossible READER WRITER`: 1 where the state is impossible.
+// 1 where a writer's state is impossible.
+fn writer_bit(wr: &[u64; 52]) -> u64 {
+    if writer::state::is_impossible(states::writer_of(wr)) {
+        return 1;
+    }
+    0
+}
+
+// `Impossible`, row `impossible READER WRITER`.
 pub(crate) fn impossible(rd: &[u64; 52], wr: &[u64; 52]) {
     rows::say(b"impossible");
-    put_bool(reader::state::is_impossible(states::reader_of(rd)));
-    put_bool(writer::state::is_impossible(states::writer_of(wr)));
+    rows::put(reader_bit(rd));
+    rows::put(writer_bit(wr));
     rows::end();
 }

@@ -7,12 +7,13 @@
 use course::Last;
 use course::Place;
 use line::settings::Settings;
+use line::systems;
 use reader::machine::Phase;
 use reader::state::Reader;
 use writer::state::Rest;
 use writer::state::Writer;
 ghost use mathlib.Core.Path.{_≡_};
-ghost use Prim.Native.Nat.{_+_, _≤_};
+ghost use Prim.Native.Nat.{_≤_};
 ghost use lib.ListN.{length};
 
 pub(crate) fn byte(x: u64) -> u8 {
@@ -21,6 +22,12 @@ pub(crate) fn byte(x: u64) -> u8 {
 
 pub(crate) fn word(x: u64) -> u16 {
     (x % 65536) as u16
+}
+
+// The code of the state's system.
+pub(crate) fn code_of(s: &[u64; 52]) -> u64 {
+    let known = systems::system_of(byte(s[0]));
+    known.code as u64
 }
 
 fn last_of(s: &[u64; 52]) -> Last {

@@ -1,5 +1,4 @@
 -- `heard::calls::calls` is safe and ends. Assumes nothing.
-use Prim.Native.Nat.{_≤_, _-_}
 use lib.ListN.{length}
 use mathlib.Core.Path.{_≡_}
 use borrow.Author.Needs.{needs}
@@ -7,22 +6,16 @@ use Rattle.heard.proofs.calls.calls.Statement.{statement}
 use Rattle.heard.proofs.calls.calls.Tie as tie
 
 abbrev Inv-loop : tie.InvT-loop
-Inv-loop times line room₀ r₀ k₀ room r k = (k ≤ times) × (length room ≡ length room₀)
+Inv-loop rd₀ times line room₀ left₀ rd room left = length room ≡ length room₀
 
 abbrev μ-loop : tie.MeasureT-loop
-μ-loop times line room₀ r₀ k₀ room r k = times - k
+μ-loop rd₀ times line room₀ left₀ rd room left = left
 
 loop-holds : tie.Need-loop-holds Inv-loop μ-loop
 loop-holds c = search needs
 
-read-requires : tie.Need-read-requires Inv-loop μ-loop
-read-requires c κs = search needs
-
-put-event-requires : tie.Need-put-event-requires Inv-loop μ-loop
-put-event-requires c κs = search needs
-
-is-last-requires : tie.Need-is-last-requires Inv-loop μ-loop
-is-last-requires c κs = search needs
+call-requires : tie.Need-call-requires Inv-loop μ-loop
+call-requires c κs = search needs
 
 same-length : tie.Need-same-length Inv-loop μ-loop
 same-length c = search needs
@@ -30,8 +23,8 @@ same-length c = search needs
 returns : tie.Need-returns Inv-loop μ-loop
 returns c = search needs
 
-add-k : tie.Need-add-k Inv-loop μ-loop
-add-k c = search needs
+sub-left : tie.Need-sub-left Inv-loop μ-loop
+sub-left c = search needs
 
 loop-less : tie.Need-loop-less Inv-loop μ-loop
 loop-less c = search needs
@@ -52,12 +45,10 @@ calls-spec =
     Inv-loop
     μ-loop
     loop-holds
-    read-requires
-    put-event-requires
-    is-last-requires
+    call-requires
     same-length
     returns
-    add-k
+    sub-left
     loop-less
     loop-again
     same-length-2

@@ -12,9 +12,6 @@ at-requires c κs = search needs
 within-requires : tie.Need-within-requires
 within-requires c κs = search needs
 
-reader-of-requires : tie.Need-reader-of-requires
-reader-of-requires c κs = search needs
-
 slice-aggregate-say : tie.Need-slice-aggregate-say
 slice-aggregate-say c = search needs
 
@@ -32,9 +29,6 @@ slice-aggregate-calls c = sym (length-take-le _ _ (search needs))
 
 calls-requires : tie.Need-calls-requires
 calls-requires c κs = search needs
-
-keep-reader-requires : tie.Need-keep-reader-requires
-keep-reader-requires c κs = search needs
 
 put-state-requires : tie.Need-put-state-requires
 put-state-requires c κs = search needs
@@ -54,14 +48,12 @@ read-spec =
     (tie.spec
     at-requires
     within-requires
-    reader-of-requires
     slice-aggregate-say
     say-requires
     at-requires-2
     slice-relend-prefix-calls
     slice-aggregate-calls
     calls-requires
-    keep-reader-requires
     put-state-requires
     end-requires
     same-length
