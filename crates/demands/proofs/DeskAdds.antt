@@ -15,7 +15,6 @@ use Rattle.words.specs.Modes.{values}
 use Rattle.line.specs.declared.settings.Settings.{Settings}
 use Rattle.line.specs.Fixed.{isVariable, sizeOf}
 use Rattle.course.specs.declared.Place.{Place}
-use Rattle.course.specs.declared.Place.the-variants.{At}
 use Rattle.course.specs.Course.{isAt}
 use Rattle.writer.specs.declared.state.Rest.{Rest}
 use Rattle.writer.specs.declared.state.Rest.the-variants.{Whole, Part}
@@ -146,6 +145,7 @@ module _ (system mode : ℕ) (d : Desk) (kind : ℕ) (vs : List ℕ) (ok : DeskO
     now-varies = record {
       small = omega (arith, finds .byte);
       at-most = omega (arith, lent-now .long, finds .number);
+      length-is = lent-now .long;
       values-fit = lent-now .fits;
       k = k;
       some = some-laid;

@@ -49,7 +49,7 @@ module _ (d : Desk) (f v : Bool) (n : ℕ) (t : Settings) (held : Held t) (lent 
 
 -- ---- adding
 -- the desk with another state, and other words of the line opened last
-abbrev moves : Desk → Writer → List ℕ → Desk
+abbrev pub moves : Desk → Writer → List ℕ → Desk
 moves d w ws = record { writer = w; now = with (d .now) (d .now .pieces) (d .now .blocks) ws; closed = d .closed; values = d .values; pieces = d .pieces }
 
 laid-not : (k : ℕ) (b : Bool) → pick b Finished Unfinished ≡ Not k → ⊥
@@ -116,21 +116,3 @@ owing-stays mode d w s c kind n j e o =
       short = o .short;
       words = o .words;
     }
-
--- opening and adding close no line
-pub open-closed : (d : Desk) (f v : Bool) (n : ℕ) (t : Settings) (held : Held t) (lent : List ℕ) → after d (opens f v n t held lent) .closed ≡ d .closed
-unfolding after
-open-closed d f v n t held lent = by (opening (d .writer) f v n t lent .answer)
-  where
-    by : (z : Answer) → openedBy z (opening (d .writer) f v n t lent) d f v n t .closed ≡ d .closed
-    by (Refused k) = refl
-    by Done = refl
-
-pub add-closed : (d : Desk) (kind : ℕ) (vs : List ℕ) → after d (adds kind vs) .closed ≡ d .closed
-unfolding after
-add-closed d kind vs = by (adding (d .writer) (d .now .words) kind vs .answer)
-  where
-    by : (z : Laid) → addedBy z (adding (d .writer) (d .now .words) kind vs) d kind vs .closed ≡ d .closed
-    by (Not k) = refl
-    by Finished = refl
-    by Unfinished = refl

@@ -4,8 +4,10 @@ pub mod BlockRun
 pub mod PlaceRun
 pub mod WalkRun
 pub mod LineRun
+pub mod Ear
 pub mod LineLends
 pub mod LineEnds
+pub mod EarReads
 pub mod DeskOk
 pub mod Outcomes
 pub mod DeskCalls
@@ -13,12 +15,14 @@ pub mod DeskOpens
 pub mod DeskAdds
 pub mod DeskAdded
 pub mod DeskCloses
+pub mod DeskDoes
 pub mod DeskLaws
 pub mod Ahead
 pub mod StartLine
 pub mod PieceRun
 pub mod AddLine
 pub mod EndLine
+pub mod QuietLine
 pub mod Follow
 pub mod Notices
 pub mod Demand2Holds

@@ -1,14 +1,13 @@
--- A run of removed lines shorter than one frame is noticed: the line behind it does not have the next number.
+-- A run of removed lines shorter than one frame is noticed: the line behind it does not have the next number, and a line behind a kept one has it.
 -- Assumes nothing.
 use Prim.Native.Nat.{ℕ, zero, suc, _+_, _≤_, _<_}
 use mathlib.Core.Bool.{Bool, true, false}
 use mathlib.Core.List.{List, [], _∷_, _++_, append-assoc}
 use mathlib.Core.Path.{_≡_, refl, sym, ap, _∙_, subst}
 use native.Mathlib.Omega.{arith}
-use lib.Dec.{eqb, ltb}
+use lib.Dec.{ltb}
 use lib.ListN.{replicate}
-use borrow.Author.Tests.{ne-eqb, ltb-true, ltb-false, lt-ltb, le-ltb}
-use Rattle.lists.specs.Tests.{pick}
+use borrow.Author.Tests.{eq-eqb, ne-eqb, ltb-true, ltb-false, lt-ltb, le-ltb}
 use Rattle.lists.proofs.Tests.{true-false, pick-true, pick-false}
 use Rattle.course.specs.declared.Last.{Last}
 use Rattle.course.specs.declared.Last.the-variants.{Unknown, Number}
@@ -17,7 +16,7 @@ use Rattle.writer.specs.Opening.{isNext}
 use Rattle.demands.specs.Sending.{Sent}
 use Rattle.demands.specs.Damage.{Fate, kept, removed, replaced, RunsBelow}
 use Rattle.demands.specs.Demand3.{Follows, Consecutive}
-use Rattle.demands.proofs.Ahead.{Noticed}
+use Rattle.demands.proofs.Ahead.{isKnown, Noticed}
 
 -- ---- numbers: fewer than N steps never lead back
 abbrev steps : ℕ → ℕ → ℕ → ℕ
@@ -88,14 +87,14 @@ one-more : (r : ℕ) (fs : List Fate) → replicate r removed ++ (removed ∷ fs
 one-more zero fs = refl
 one-more (suc r) fs = ap {B = List Fate} (λ l. removed ∷ l) (one-more r fs)
 
-other : (lines r : ℕ) (f : Fate) (fs : List Fate) → RunsBelow lines (replicate r removed ++ (f ∷ fs)) → RunsBelow lines fs
-other lines r f fs h =
+past-one : (lines r : ℕ) (f : Fate) (fs : List Fate) → RunsBelow lines (replicate r removed ++ (f ∷ fs)) → RunsBelow lines fs
+past-one lines r f fs h =
     behind lines (replicate r removed ++ (f ∷ [])) fs (subst (RunsBelow lines) (sym (append-assoc (replicate r removed) (f ∷ []) fs)) h)
 
 short : (lines r : ℕ) → r < lines → (fs : List Fate) → RunsBelow lines (replicate r removed ++ fs) → Short lines r fs
 short lines r k [] h = tt
-short lines r k (kept ∷ fs) h = short lines 0 (omega arith) fs (other lines r kept fs h)
-short lines r k (replaced ws ∷ fs) h = short lines 0 (omega arith) fs (other lines r (replaced ws) fs h)
+short lines r k (kept ∷ fs) h = short lines 0 (omega arith) fs (past-one lines r kept fs h)
+short lines r k (replaced ws ∷ fs) h = short lines 0 (omega arith) fs (past-one lines r (replaced ws) fs h)
 short lines r k (removed ∷ fs) h =
     let less : suc r < lines = by (ltb (suc r) lines) refl in
     (less, short lines (suc r) less fs (subst (RunsBelow lines) (one-more r fs) h))
@@ -119,39 +118,44 @@ far lines some (Number y) r x n a e least less =
     let is : steps lines r (nextNumber lines y) ≡ n = steps-next lines r y ∙ ap (nextNumber lines) (sym a) ∙ sym e in
     ne-eqb n (nextNumber lines y) (λ h. steps-move lines r (nextNumber lines y) (i .0) (i .1) least less (is ∙ h))
 
-noticed-by : (lines : ℕ) → 0 < lines → (fs : List Fate) (ss : List Sent) (before : Last) (gone : Bool) (r x : ℕ) → Follows lines x ss → Short lines r fs → r < lines
-    → (gone ≡ true → 1 ≤ r) → Apart lines before r x → Noticed lines before gone fs ss
-noticed-by lines some [] ss before gone r x follows runs less least apart = tt
-noticed-by lines some (f ∷ fs) [] before gone r x follows runs less least apart = tt
-noticed-by lines some (kept ∷ fs) (s ∷ ss) before gone r x follows runs less least apart = (
-  (λ g. far lines some before r x (s .number) apart (follows .0) (least g) less),
-  noticed-by lines some fs ss (Number (s .number)) false 0 (s .number) (follows .1) runs (omega arith) (λ g. absurd (true-false (sym g))) refl,
+-- none removed: the line has the next number
+near : (lines : ℕ) (before : Last) (r x n : ℕ) → Apart lines before r x → n ≡ nextNumber lines x → r ≡ 0 → isKnown before ≡ true → isNext lines before n ≡ true
+near lines Unknown r x n a e z k = absurd (true-false (sym k))
+near lines (Number y) r x n a e z k = eq-eqb n (nextNumber lines y) (e ∙ ap (nextNumber lines) (a ∙ ap (λ (j : ℕ). steps lines j y) z))
+
+noticed-by : (lines : ℕ) (told : Bool) → 0 < lines → (fs : List Fate) (ss : List Sent) (before : Last) (gone : Bool) (r x : ℕ) → Follows lines x ss → Short lines r fs → r < lines
+    → (gone ≡ true → 1 ≤ r) → (gone ≡ false → r ≡ 0) → Apart lines before r x → Noticed lines told before gone fs ss
+noticed-by lines told some [] ss before gone r x follows runs less least none apart = tt
+noticed-by lines told some (f ∷ fs) [] before gone r x follows runs less least none apart = tt
+noticed-by lines told some (kept ∷ fs) (s ∷ ss) before gone r x follows runs less least none apart = (
+  ((λ g. far lines some before r x (s .number) apart (follows .0) (least g) less), λ t g k. near lines before r x (s .number) apart (follows .0) (none g) k),
+  noticed-by lines told some fs ss (Number (s .number)) false 0 (s .number) (follows .1) runs (omega arith) (λ g. absurd (true-false (sym g))) (λ g. refl) refl,
 )
-noticed-by lines some (removed ∷ fs) (s ∷ ss) before gone r x follows runs less least apart =
-    noticed-by lines some fs ss before true (suc r) (s .number) (follows .1) (runs .1) (runs .0) (λ g. omega arith) (further before apart)
+noticed-by lines told some (removed ∷ fs) (s ∷ ss) before gone r x follows runs less least none apart =
+    noticed-by lines told some fs ss before true (suc r) (s .number) (follows .1) (runs .1) (runs .0) (λ g. omega arith) (λ g. absurd (true-false g)) (further before apart)
   where
     further : (l : Last) → Apart lines l r x → Apart lines l (suc r) (s .number)
     further Unknown a = tt
     further (Number y) a = follows .0 ∙ ap (nextNumber lines) a
-noticed-by lines some (replaced ws ∷ fs) (s ∷ ss) before gone r x follows runs less least apart =
-    noticed-by lines some fs ss Unknown false 0 (s .number) (follows .1) runs (omega arith) (λ g. absurd (true-false (sym g))) tt
+noticed-by lines told some (replaced ws ∷ fs) (s ∷ ss) before gone r x follows runs less least none apart =
+    noticed-by lines told some fs ss Unknown false 0 (s .number) (follows .1) runs (omega arith) (λ g. absurd (true-false (sym g))) (λ g. refl) tt
 
 -- a frame has lines: no run is shorter than none
 some-lines : (lines : ℕ) (fs : List Fate) → RunsBelow lines fs → 0 < lines
 some-lines zero fs h = absurd (h [] fs refl)
 some-lines (suc n) fs h = omega arith
 
-first-by : (lines : ℕ) → 0 < lines → (fs : List Fate) (ss : List Sent) → Consecutive lines ss → Short lines 0 fs → Noticed lines Unknown false fs ss
-first-by lines some [] ss numbers runs = tt
-first-by lines some (f ∷ fs) [] numbers runs = tt
-first-by lines some (kept ∷ fs) (s ∷ ss) numbers runs = (
-  (λ g. absurd (true-false (sym g))),
-  noticed-by lines some fs ss (Number (s .number)) false 0 (s .number) numbers runs some (λ g. absurd (true-false (sym g))) refl,
+first-by : (lines : ℕ) (told : Bool) → 0 < lines → (fs : List Fate) (ss : List Sent) → Consecutive lines ss → Short lines 0 fs → Noticed lines told Unknown false fs ss
+first-by lines told some [] ss numbers runs = tt
+first-by lines told some (f ∷ fs) [] numbers runs = tt
+first-by lines told some (kept ∷ fs) (s ∷ ss) numbers runs = (
+  ((λ g. absurd (true-false (sym g))), λ t g k. absurd (true-false (sym k))),
+  noticed-by lines told some fs ss (Number (s .number)) false 0 (s .number) numbers runs some (λ g. absurd (true-false (sym g))) (λ g. refl) refl,
 )
-first-by lines some (removed ∷ fs) (s ∷ ss) numbers runs =
-    noticed-by lines some fs ss Unknown true 1 (s .number) numbers (runs .1) (runs .0) (λ g. omega arith) tt
-first-by lines some (replaced ws ∷ fs) (s ∷ ss) numbers runs =
-    noticed-by lines some fs ss Unknown false 0 (s .number) numbers runs some (λ g. absurd (true-false (sym g))) tt
+first-by lines told some (removed ∷ fs) (s ∷ ss) numbers runs =
+    noticed-by lines told some fs ss Unknown true 1 (s .number) numbers (runs .1) (runs .0) (λ g. omega arith) (λ g. absurd (true-false g)) tt
+first-by lines told some (replaced ws ∷ fs) (s ∷ ss) numbers runs =
+    noticed-by lines told some fs ss Unknown false 0 (s .number) numbers runs some (λ g. absurd (true-false (sym g))) (λ g. refl) tt
 
-pub noticed : (lines : ℕ) (fs : List Fate) (ss : List Sent) → RunsBelow lines fs → Consecutive lines ss → Noticed lines Unknown false fs ss
-noticed lines fs ss runs numbers = let some = some-lines lines fs runs in first-by lines some fs ss numbers (short lines 0 some fs runs)
+pub noticed : (lines : ℕ) (told : Bool) (fs : List Fate) (ss : List Sent) → RunsBelow lines fs → Consecutive lines ss → Noticed lines told Unknown false fs ss
+noticed lines told fs ss runs numbers = let some = some-lines lines fs runs in first-by lines told some fs ss numbers (short lines 0 some fs runs)

@@ -35,6 +35,7 @@ pub record Opens (system : ℕ) (d : Desk) (f v : Bool) (n : ℕ) (t : Settings)
 pub record Varies (mode : ℕ) (d : Desk) (kind : ℕ) (vs : List ℕ) : Type 0 where
   pub small : kind ≤ 255
   pub at-most : length (valuesNow d vs) ≤ most
+  pub length-is : length (valuesNow d vs) ≡ length vs
   pub values-fit : valued mode (valuesNow d vs) ≡ true
   pub k : ℕ
   pub some : 1 ≤ k

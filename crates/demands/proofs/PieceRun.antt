@@ -11,7 +11,6 @@ use lib.Seq.{take-all}
 use Rattle.lists.specs.Tests.{pick}
 use Rattle.lists.proofs.Lists.{part-add}
 use Rattle.lists.proofs.Tests.{pick-true, pick-false}
-use Rattle.writer.specs.State.{most}
 use Rattle.writer.specs.Block.{blockWords}
 use Rattle.reader.specs.declared.machine.Phase.{Phase}
 use Rattle.reader.specs.declared.machine.Phase.the-variants.{Idle}
@@ -48,17 +47,17 @@ all-lost keeps ps p e = all-append keeps ps (p ∷ []) ∙ ap (λ (b : Bool). al
     and-none true = refl
     and-none false = refl
 
-module _ (mode kind : ℕ) (us : List ℕ) (s : Shaped mode kind us) (keeps : ℕ → Bool) (ps : List Piece) (q : Now) (m : Matches mode keeps ps q) (j k : ℕ)
+module _ (mode cap kind : ℕ) (us : List ℕ) (s : Shaped mode kind us) (fit : length us ≤ cap) (keeps : ℕ → Bool) (ps : List Piece) (q : Now) (m : Matches mode cap keeps ps q) (j k : ℕ)
     (before : joinedPieces ps ≡ take j (blockWords mode kind us)) (piece : List ℕ) (is : piece ≡ take k (drop j (blockWords mode kind us)))
     (some : allOn keeps ps ≡ false → 1 ≤ j) where
   abbrev words : List ℕ
   words = blockWords mode kind us
 
-  fits : (b : Behind mode ps q) → length us ≤ length (b .from)
-  fits b = omega (arith, s .at-most, b .from-long)
+  fits : (b : Behind mode cap ps q) → length us ≤ length (b .from)
+  fits b = omega (arith, fit, b .from-long)
 
   -- the machine behind the first j words
-  stands : (b : Behind mode ps q) → q ≡ runTo mode (idle (b .from)) (take j words)
+  stands : (b : Behind mode cap ps q) → q ≡ runTo mode (idle (b .from)) (take j words)
   stands b = b .is ∙ ap (runTo mode (idle (b .from))) before
 
   -- something was lost: idle passes over the piece
@@ -79,7 +78,7 @@ module _ (mode kind : ℕ) (us : List ℕ) (s : Shaped mode kind us) (keeps : �
         let w = block-long mode kind us in
         is ∙ take-all k (drop j words) (omega arith)
 
-    last-out : (b : Behind mode ps q) → runOut mode q piece ≡ is-block (record { kind = kind; values = us }) ∷ []
+    last-out : (b : Behind mode cap ps q) → runOut mode q piece ≡ is-block (record { kind = kind; values = us }) ∷ []
     last-out b =
         ap₂ (λ (x : Now) (l : List ℕ). runOut mode x l) (stands b) rest-is
         ∙ sym (ap (λ (l : List Heard). l ++ runOut mode (runTo mode (idle (b .from)) (take j words)) (drop j words)) (front-out mode kind us s (b .from) (fits b) j (omega arith)))
@@ -87,7 +86,7 @@ module _ (mode kind : ℕ) (us : List ℕ) (s : Shaped mode kind us) (keeps : �
         ∙ ap (runOut mode (idle (b .from))) (take-append-drop j words)
         ∙ whole-out mode kind us s (b .from) (fits b)
 
-    last-to : (b : Behind mode ps q) → runTo mode q piece .phase ≡ Idle
+    last-to : (b : Behind mode cap ps q) → runTo mode q piece .phase ≡ Idle
     last-to b =
         ap (λ (x : Now). x .phase)
         (ap₂ (λ (x : Now) (l : List ℕ). runTo mode x l) (stands b) rest-is
@@ -112,7 +111,7 @@ module _ (mode kind : ℕ) (us : List ℕ) (s : Shaped mode kind us) (keeps : �
 
   -- ---- a piece before the last
   module _ (short : j + k ≤ length us + 6) where
-    more-out : (b : Behind mode ps q) → runOut mode q piece ≡ []
+    more-out : (b : Behind mode cap ps q) → runOut mode q piece ≡ []
     more-out b =
         ap₂ (λ (x : Now) (l : List ℕ). runOut mode x l) (stands b) is
         ∙ sym (ap (λ (l : List Heard). l ++ runOut mode (runTo mode (idle (b .from)) (take j words)) (take k (drop j words))) (front-out mode kind us s (b .from) (fits b) j (omega arith)))
@@ -127,7 +126,7 @@ module _ (mode kind : ℕ) (us : List ℕ) (s : Shaped mode kind us) (keeps : �
         by true e = more-out (m .whole e)
         by false e = lost-out e
 
-    pub matches-on : (p : Piece) → keeps (p .line) ≡ true → p .words ≡ piece → Matches mode keeps (ps ++ (p ∷ [])) (runTo mode q piece)
+    pub matches-on : (p : Piece) → keeps (p .line) ≡ true → p .words ≡ piece → Matches mode cap keeps (ps ++ (p ∷ [])) (runTo mode q piece)
     matches-on p e w = record {
       long = run-room mode q piece ∙ m .long;
       whole = λ h.

@@ -2,9 +2,9 @@
 -- is stated over numbers and areas alone, and for any N; of the four systems it is what they do in variable lines with equal settings.
 -- Assumes nothing.
 use Prim.Native.Nat.{ℕ, _+_}
-use mathlib.Core.Bool.{Bool, true, false, _&&_, not}
+use mathlib.Core.Bool.{Bool, true, false, _&&_}
 use mathlib.Core.List.{List, [], _∷_, _++_}
-use mathlib.Core.Path.{_≡_, refl, ap, ap₂, _∙_}
+use mathlib.Core.Path.{_≡_, refl, ap, _∙_}
 use lib.IntN.{pos, negsuc}
 use lib.ListN.{replicate, take, drop}
 use Rattle.lists.specs.Tests.{pick}
@@ -21,8 +21,6 @@ use Rattle.course.specs.declared.Last.the-variants.{Unknown, Number}
 use Rattle.course.specs.Course.{nextNumber}
 use Rattle.writer.specs.Block.{countWords, blockWords}
 use Rattle.reader.specs.declared.machine.Phase.the-variants.{Idle}
-use Rattle.reader.specs.declared.state.Reader.{Reader}
-use Rattle.reader.specs.Phases.{isBusy}
 use Rattle.reader.specs.Machine.{counted, endStep, valueStep, stepOf}
 use Rattle.reader.specs.Walk.{stored}
 use Rattle.reader.specs.declared.jump.Jump.the-variants.{Known}
@@ -31,7 +29,8 @@ use Rattle.reader.specs.Reading.{goesOn}
 use Rattle.demands.specs.Sending.{Block}
 use Rattle.demands.specs.Hearing.{Heard, is-begun, is-block, is-end}
 use Rattle.demands.proofs.Run.{Now, now, idle, stepTo, stepOut, runTo, runOut}
-use Rattle.demands.proofs.LineRun.{leftOut, leftTo, startNow, Hears}
+use Rattle.demands.proofs.LineRun.{leftOut, leftTo}
+use Rattle.demands.proofs.Ear.{Ear, own, startNow, loses, heardOfInput, earAfter}
 
 -- a line of which only the number and the area are told
 pub record NumberedArea : Type 0 where
@@ -49,39 +48,33 @@ heardAreas lines mode last q (x ∷ xs) =
     let start = begins lines last q (x .number) in
     runOut mode start (x .area) ++ heardAreas lines mode (Number (x .number)) (runTo mode start (x .area)) xs
 
--- ---- a reader of the four systems, lent a variable line with the settings of the line before it, does this
-module _ (st : Reader) (n : ℕ) (t : Settings) (ws room : List ℕ) (hs : List Heard) (st′ : Reader) (room′ : List ℕ) (h : Hears st n t ws room hs st′ room′)
-    (variable : isVariable (t .block) ≡ true) (equal : sameSettings t (st .settings) ≡ true) where
-  abbrev start : Now
-  start = begins (systemOf (st .system) .lines) (st .last) (now (st .phase) room) n
-
-  start-is : startNow st n t room ≡ start
+-- ---- an ear of the four systems to which a variable line with the settings of the line before it comes does this
+module _ (system mode : ℕ) (e : Ear) (n : ℕ) (t : Settings) (ws : List ℕ) (variable : isVariable (t .block) ≡ true) (equal : sameSettings t (e .settings) ≡ true) where
+  start-is : startNow system mode e n t ≡ begins (systemOf system .lines) (e .last) (now (e .phase) (e .room)) n
   unfolding goesOn begins
   start-is =
-      let jump = isZero (jumpFrom (systemOf (st .system) .lines) (st .last) n) in
-      ap (λ (b : Bool). now (pick b (st .phase) Idle) room) (ap (λ (b : Bool). jump && b) equal ∙ and-yes jump)
+      let jump = isZero (jumpFrom (systemOf system .lines) (e .last) n) in
+      ap (λ (b : Bool). now (pick b (e .phase) Idle) (e .room)) (ap (λ (b : Bool). jump && b) equal ∙ and-yes jump)
     where
       and-yes : (a : Bool) → (a && true) ≡ a
       and-yes true = refl
       and-yes false = refl
 
-  pub hears-area : hs
-      ≡ is-begun n (jumpFrom (systemOf (st .system) .lines) (st .last) n) (isBusy (st .phase) && not (goesOn st n t)) t
-      ∷ (runOut (st .mode) (begins (systemOf (st .system) .lines) (st .last) (now (st .phase) room) n) ws ++ (is-end ∷ []))
+  pub hears-area : heardOfInput system mode e (own n t ws)
+      ≡ is-begun n (jumpFrom (systemOf system .lines) (e .last) n) (loses system mode e (own n t ws)) t
+      ∷ (runOut mode (begins (systemOf system .lines) (e .last) (now (e .phase) (e .room)) n) ws ++ (is-end ∷ []))
   unfolding leftOut
   hears-area =
-      h .heard
-      ∙ ap {B = List Heard} (λ (l : List Heard). is-begun n (jumpFrom (systemOf (st .system) .lines) (st .last) n) (isBusy (st .phase) && not (goesOn st n t)) t ∷ (l ++ (is-end ∷ [])))
-      (pick-true _ _ variable ∙ ap (λ (q : Now). runOut (st .mode) q ws) start-is)
+      ap {B = List Heard} (λ (l : List Heard). is-begun n (jumpFrom (systemOf system .lines) (e .last) n) (loses system mode e (own n t ws)) t ∷ (l ++ (is-end ∷ [])))
+      (pick-true _ _ variable ∙ ap (λ (q : Now). runOut mode q ws) start-is)
 
-  pub leaves-area : now (st′ .phase) room′ ≡ runTo (st .mode) (begins (systemOf (st .system) .lines) (st .last) (now (st .phase) room) n) ws
+  pub leaves-area : now (earAfter system mode e (own n t ws) .phase) (earAfter system mode e (own n t ws) .room)
+      ≡ runTo mode (begins (systemOf system .lines) (e .last) (now (e .phase) (e .room)) n) ws
   unfolding leftTo
-  leaves-area =
-      ap₂ (λ (x : Reader) (l : List ℕ). now (x .phase) l) (h .state) (h .room-is)
-      ∙ pick-true _ _ variable ∙ ap (λ (q : Now). runTo (st .mode) q ws) start-is
+  leaves-area = pick-true _ _ variable ∙ ap (λ (q : Now). runTo mode q ws) start-is
 
-  pub leaves-last : st′ .last ≡ Number n
-  leaves-last = ap (λ (x : Reader). x .last) (h .state)
+  pub leaves-last : earAfter system mode e (own n t ws) .last ≡ Number n
+  leaves-last = refl
 
 -- ---- two blocks of two values each, laid one word to a line, the first line with number 5
 abbrev one : Block
