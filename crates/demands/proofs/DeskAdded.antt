@@ -113,14 +113,11 @@ module _ (system mode : ℕ) (d : Desk) (kind : ℕ) (vs : List ℕ) (ok : DeskO
       → Owing mode (addedBy Unfinished (adding (d .writer) (d .now .words) kind vs) d kind vs) kind (length vs) (laidOf (d .writer .rest) + k)
   owing-now e =
       let v = varies (d .writer) (d .now .words) kind vs clear e in
-      let can = finds system mode d kind vs ok clear in
       let lent = lent-now system mode d kind vs ok clear in
       let range = goes-now system mode d kind vs ok clear v e in
       record {
         variable = ap (λ (y : Added). isVariable (y .state .settings .block)) leaves ∙ v;
         long = lent .long;
-        small = omega (arith, can .byte);
-        at-most = can .number;
         values-fit = lent .fits;
         some = range .0;
         short = range .1;

@@ -109,8 +109,6 @@ owing-stays mode d w s c kind n j e o =
     record {
       variable = ap isVariable e ∙ o .variable;
       long = o .long;
-      small = o .small;
-      at-most = o .at-most;
       values-fit = o .values-fit;
       some = o .some;
       short = o .short;

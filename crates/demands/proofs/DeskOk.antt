@@ -13,7 +13,7 @@ use Rattle.words.specs.Modes.{isMode}
 use Rattle.course.specs.declared.Last.the-variants.{Number}
 use Rattle.course.specs.Course.{isAt}
 use Rattle.writer.specs.declared.state.Rest.the-variants.{Whole, Part}
-use Rattle.writer.specs.State.{most, impossible}
+use Rattle.writer.specs.State.{impossible}
 use Rattle.writer.specs.Adding.{valued}
 use Rattle.writer.specs.Block.{blockWords}
 use Rattle.writer.specs.Course.{joined}
@@ -43,8 +43,6 @@ pub record OpenNow (system mode : ℕ) (d : Desk) : Type 0 where
 pub record Owing (mode : ℕ) (d : Desk) (kind n j : ℕ) : Type 0 where
   pub variable : isVariable (d .writer .settings .block) ≡ true
   pub long : length (d .values) ≡ n
-  pub small : kind ≤ 255
-  pub at-most : n ≤ most
   pub values-fit : valued mode (d .values) ≡ true
   pub some : 1 ≤ j
   pub short : j ≤ n + 6

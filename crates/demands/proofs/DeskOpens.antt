@@ -10,6 +10,7 @@ use Rattle.lists.proofs.Tests.{true-false, or-false}
 use Rattle.line.specs.declared.settings.Settings.{Settings}
 use Rattle.line.specs.Systems.{systemOf}
 use Rattle.line.specs.Settings.{Held, sameSettings}
+use Rattle.line.proofs.SettingsLaws.{same-block}
 use Rattle.course.specs.declared.Place.{Place}
 use Rattle.course.specs.declared.Place.the-variants.{Shut, At}
 use Rattle.course.specs.Course.{isAt}
@@ -21,7 +22,6 @@ use Rattle.writer.specs.Opening.{isNext, openBlocked, openState, openWords, ope
 use Rattle.writer.proofs.Keeps.{open-clear, open-leaves}
 use Rattle.writer.proofs.Refusals.{CanOpen, can-open}
 use Rattle.writer.proofs.Stays.{open-possible}
-use Rattle.writer.proofs.Pieces.{open-goes}
 use Rattle.writer.proofs.Writing.{opened-line}
 use Rattle.demands.specs.Sending.{Desk, openedBy}
 use Rattle.demands.proofs.DeskOk.{DeskOk}
@@ -84,7 +84,7 @@ module _ (d : Desk) (f v : Bool) (n : ℕ) (t : Settings) (lent : List ℕ) (don
         owing = λ kind m j r.
             let part : d .writer .rest ≡ Part kind m j = sym rest ∙ r in
             owing-stays (d .writer .mode) d (opening (d .writer) f v n t lent .state) _ (d .closed) kind m j
-            (open-goes (d .writer) f v n t lent (ap isPart part) .block) (ok .owing kind m j part);
+            (ap (λ (u : Settings). u .block) (own-opens .settings) ∙ same-block t (d .writer .settings) (own-opens .goes-on (ap isPart part) .0)) (ok .owing kind m j part);
       }
 
 -- ---- an accepted opening

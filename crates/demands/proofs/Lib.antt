@@ -26,7 +26,6 @@ pub mod QuietLine
 pub mod Follow
 pub mod Notices
 pub mod Demand2Holds
-pub mod SmallFrame
 pub mod FrameCourse
 pub mod FrameNeeded
 pub mod Demand3Holds
