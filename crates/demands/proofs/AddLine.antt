@@ -8,20 +8,19 @@ use native.Mathlib.Omega.{arith}
 use lib.ListN.{length, length-map}
 use Rattle.lists.specs.Tests.{pick}
 use Rattle.lists.proofs.Tests.{true-false, pick-true}
-use Rattle.line.specs.Fixed.{isVariable}
 use Rattle.course.specs.declared.Place.the-variants.{Shut}
 use Rattle.course.specs.Course.{isAt}
 use Rattle.words.specs.Modes.{wordOf}
 use Rattle.writer.specs.declared.state.Rest.{Rest}
 use Rattle.writer.specs.declared.state.Rest.the-variants.{Whole, Part}
 use Rattle.writer.specs.declared.state.Laid.the-variants.{Finished, Unfinished}
-use Rattle.writer.specs.State.{isPart, laidOf}
+use Rattle.writer.specs.State.{most, isPart, laidOf}
 use Rattle.writer.specs.Answers.{Added}
 use Rattle.writer.specs.Adding.{addFault, room, adding}
 use Rattle.writer.specs.Block.{fixedWords}
 use Rattle.writer.specs.Course.{joined, pieceOf}
 use Rattle.writer.proofs.Keeps.{add-leaves}
-use Rattle.demands.specs.Sending.{Block, Complete, Desk, valuesNow, pieceNow, completeNow, addedBy}
+use Rattle.demands.specs.Sending.{Block, Piece, Complete, Desk, with, valuesNow, pieceNow, completeNow, addedBy}
 use Rattle.demands.specs.Hearing.{Heard, is-block}
 use Rattle.demands.specs.Damage.{allOn, survivors}
 use Rattle.demands.proofs.Run.{Now, now, runTo, runOut, placeOut, placesTo}
@@ -30,10 +29,11 @@ use Rattle.demands.proofs.BlockRun.{Shaped}
 use Rattle.demands.proofs.PlaceRun.{place-given, place-room, places-out-append, places-to-append}
 use Rattle.demands.proofs.Ear.{Ear, startNow}
 use Rattle.demands.proofs.DeskOk.{DeskOk}
-use Rattle.demands.proofs.Outcomes.{Varies, Fills}
+use Rattle.demands.proofs.Outcomes.{Varies, Fills, Adds}
 use Rattle.demands.proofs.DeskCalls.{joined-append}
+use Rattle.demands.proofs.DeskAdds.{adds-say}
 use Rattle.demands.proofs.DeskAdded.{rest-whole}
-use Rattle.demands.proofs.Ahead.{blocksHeard, Matches, ByWords, ByPlaces, Ahead}
+use Rattle.demands.proofs.Ahead.{blocksHeard, Matches, ByWords, ByPlaces, Inside, Ahead}
 use Rattle.demands.proofs.StartLine.{matches-idle}
 use Rattle.demands.proofs.PieceRun.{all-one, all-lost, piece-ends, idle-again, piece-silent, matches-on}
 
@@ -66,10 +66,16 @@ still-open : (d : Desk) (kind : ℕ) (vs : List ℕ) → addFault (d .writer) (l
 still-open d kind vs ok e = true-false (ap isAt (sym (ap (λ (y : Added). y .state .place) (add-leaves (d .writer) (d .now .words) kind vs ok)) ∙ e))
 
 module _ (system mode cap : ℕ) (keeps : ℕ → Bool) (told gone : Bool) (d : Desk) (ear : Ear) (kind : ℕ) (vs : List ℕ)
-    (dk : DeskOk system mode d) (ok : addFault (d .writer) (length (d .now .words)) kind vs ≡ 0) (at : isAt (d .writer .place) ≡ true) (fit : length vs ≤ cap)
+    (dk : DeskOk system mode d) (clear : addFault (d .writer) (length (d .now .words)) kind vs ≡ 0) (room-for : length vs ≤ most → length vs ≤ cap)
     (a : Ahead system mode cap keeps told gone d ear) where
   abbrev piece : List ℕ
   piece = pieceOf (d .writer) (d .now .words) kind vs
+
+  says : Adds mode d kind vs
+  says = adds-say system mode d kind vs dk clear
+
+  fit : length vs ≤ cap
+  fit = room-for (says .number)
 
   -- where something was lost of it, something was laid of it
   was-begun : allOn keeps (d .pieces) ≡ false → 1 ≤ laidOf (d .writer .rest)
@@ -154,42 +160,36 @@ module _ (system mode cap : ℕ) (keeps : ℕ → Bool) (told gone : Bool) (d : 
     }
 
   -- ---- the whole
-  -- what the line's kind says of the addition
-  pub record Says : Type 0 where
-    pub varies : isVariable (d .now .settings .block) ≡ true → Varies mode d kind vs
-    pub fills : isVariable (d .now .settings .block) ≡ false → Fills mode d kind vs
+  abbrev x : Added
+  x = adding (d .writer) (d .now .words) kind vs
 
-  pub finished-ahead : Says → adding (d .writer) (d .now .words) kind vs .answer ≡ Finished
+  -- a piece more on the line, with these blocks finished on it, and these values and pieces of an unfinished one
+  laid-ahead : (bs : List Complete) (us : List ℕ) (ps : List Piece)
+      → let d′ : Desk = record { writer = adding (d .writer) (d .now .words) kind vs .state; now = with (d .now) (d .now .pieces ++ (pieceNow d kind vs .words ∷ [])) bs (adding (d .writer) (d .now .words) kind vs .line); closed = d .closed; values = us; pieces = ps } in
+      (keeps (d .closed) ≡ true → (q : Now) → Inside mode cap keeps d q → Inside mode cap keeps d′ q)
+      → (keeps (d .closed) ≡ false → isPart (adding (d .writer) (d .now .words) kind vs .state .rest) ≡ true → allOn keeps ps ≡ false)
+      → Ahead system mode cap keeps told gone d′ ear
+  laid-ahead bs us ps on lost = record {
+    listens = a .listens;
+    between = λ z. absurd (still-open d kind vs clear z);
+    inside = λ z k h. on k (startNow system mode ear (d .now .number) (d .now .settings)) (a .inside (says .begun) k h);
+    none-dropped = λ z h g. a .none-dropped (says .begun) h g;
+    missing = λ k p z least part. lost k part;
+  }
+
+  pub finished-ahead : adding (d .writer) (d .now .words) kind vs .answer ≡ Finished
       → Ahead system mode cap keeps told gone (addedBy Finished (adding (d .writer) (d .now .words) kind vs) d kind vs) ear
-  finished-ahead s e = record {
-    listens = a .listens;
-    between = λ z. absurd (still-open d kind vs ok z);
-    inside = λ z k h.
-        let q = startNow system mode ear (d .now .number) (d .now .settings) in
-        let i = a .inside at k h in
-        record {
-          by-words = λ v. words-end q (s .varies v) (i .by-words v) k e;
-          by-places = λ v. places-end q (s .fills v) (i .by-places v) k;
-        };
-    none-dropped = λ z h g. a .none-dropped at h g;
-    missing = λ k p z l part. absurd (true-false (sym part ∙ ap isPart (rest-whole system mode d kind vs dk ok e)));
-  }
+  finished-ahead e =
+      laid-ahead (d .now .blocks ++ (completeNow d kind vs ∷ [])) [] []
+      (λ k q i. record { by-words = λ v. words-end q (says .varies v) (i .by-words v) k e; by-places = λ v. places-end q (says .fills v) (i .by-places v) k })
+      (λ k part. absurd (true-false (sym part ∙ ap isPart (rest-whole system mode d kind vs dk clear e))))
 
-  pub unfinished-ahead : Says → adding (d .writer) (d .now .words) kind vs .answer ≡ Unfinished
+  pub unfinished-ahead : adding (d .writer) (d .now .words) kind vs .answer ≡ Unfinished
       → Ahead system mode cap keeps told gone (addedBy Unfinished (adding (d .writer) (d .now .words) kind vs) d kind vs) ear
-  unfinished-ahead s e = record {
-    listens = a .listens;
-    between = λ z. absurd (still-open d kind vs ok z);
-    inside = λ z k h.
-        let q = startNow system mode ear (d .now .number) (d .now .settings) in
-        let i = a .inside at k h in
-        record {
-          by-words = λ v. words-on q (s .varies v) (i .by-words v) k e;
-          by-places = λ v. absurd (two-answers (sym (s .fills v .finished) ∙ e));
-        };
-    none-dropped = λ z h g. a .none-dropped at h g;
-    missing = λ k p z l part. all-lost keeps (d .pieces) (pieceNow d kind vs) k;
-  }
+  unfinished-ahead e =
+      laid-ahead (d .now .blocks) (valuesNow d vs) (d .pieces ++ (pieceNow d kind vs ∷ []))
+      (λ k q i. record { by-words = λ v. words-on q (says .varies v) (i .by-words v) k e; by-places = λ v. absurd (two-answers (sym (says .fills v .finished) ∙ e)) })
+      (λ k part. all-lost keeps (d .pieces) (pieceNow d kind vs) k)
     where
       two-answers : Finished ≡ Unfinished → ⊥
       two-answers h = let z : _≡_ {A = ℕ} 0 1 = cc in omega arith

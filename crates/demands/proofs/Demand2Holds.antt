@@ -11,11 +11,10 @@ use Rattle.line.specs.Systems.{systemOf}
 use Rattle.line.proofs.Lines.{written-again}
 use Rattle.course.specs.declared.Last.{Last}
 use Rattle.course.specs.declared.Last.the-variants.{Unknown, Number}
-use Rattle.writer.specs.declared.state.Laid.{Laid}
-use Rattle.writer.specs.Answers.{laidNumbers}
-use Rattle.writer.specs.Adding.{adding}
-use Rattle.writer.proofs.Pieces.{laid-ok}
-use Rattle.writer.proofs.Refusals.{can-add}
+use Rattle.course.specs.declared.Place.the-variants.{Shut}
+use Rattle.writer.specs.declared.state.Writer.{Writer}
+use Rattle.writer.specs.State.{impossible, fresh as fresh-writer}
+use Rattle.writer.proofs.Stays.{fresh-possible}
 use Rattle.writer.proofs.Writing.{written}
 use Rattle.reader.specs.State.{capacity, fresh}
 use Rattle.reader.specs.Jump.{jumpFrom}
@@ -29,10 +28,11 @@ use Rattle.demands.proofs.LineLends.{earOf}
 use Rattle.demands.proofs.LineEnds.{readable}
 use Rattle.demands.proofs.EarReads.{fresh-tuned, reads-are}
 use Rattle.demands.proofs.DeskOk.{DeskOk}
-use Rattle.demands.proofs.DeskAdds.{block-whole, piece-some}
+use Rattle.demands.proofs.DeskAdds.{adds-say}
 use Rattle.demands.proofs.DeskCloses.{closes-say}
+use Rattle.demands.proofs.DeskStart.{ValuesOf, standing, standing-ok, standing-some, start-ok}
 use Rattle.demands.proofs.DeskDoes.{Does, is-quiet, is-opened, is-finished, is-unfinished, is-closed}
-use Rattle.demands.proofs.DeskLaws.{start-ok, along}
+use Rattle.demands.proofs.DeskLaws.{along}
 use Rattle.demands.proofs.Ahead.{blocksHeard, Ahead, room-for-all, Agrees, Noticed, Tells, nothing-more, one-kept, one-removed, one-replaced}
 use Rattle.demands.proofs.StartLine.{matches-idle}
 use Rattle.demands.proofs.Follow.{follow}
@@ -80,17 +80,12 @@ module _ (system mode : ℕ) where
   one-block block [] b all one = one
   one-block block (x ∷ bs) b all one = (all .0, one-block block bs b (all .1) one)
 
-  -- the piece of an accepted addition has a word
-  some-laid : (d : Desk) (kind : ℕ) (vs : List ℕ) → length (laidNumbers (adding (d .writer) (d .now .words) kind vs .answer)) ≡ 2
-      → NoneEmpty (d .pieces) → NoneEmpty (d .pieces ++ (pieceNow d kind vs ∷ []))
-  some-laid d kind vs two h = one-piece (d .pieces) (pieceNow d kind vs) h (piece-some d kind vs (laid-ok (d .writer) (d .now .words) kind vs two))
-
   lines-by : (d : Desk) (c : Call) (d′ : Desk) (ts : List Sent) → Does true d c d′ ts → DeskOk system mode d → DeskOk system mode d′ → (cs : List Call) (ss : List Sent)
       → AreLines system ss → AreLines system (ts ++ ss)
   lines-by d c _ _ (is-quiet w ws q) dk k cs ss more = more
   lines-by d _ _ _ (is-opened f v n t held lent e) dk k cs ss more = more
-  lines-by d _ _ _ (is-finished kind vs e) dk k cs ss more = more
-  lines-by d _ _ _ (is-unfinished kind vs e) dk k cs ss more = more
+  lines-by d _ _ _ (is-finished kind vs clear e) dk k cs ss more = more
+  lines-by d _ _ _ (is-unfinished kind vs clear e) dk k cs ss more = more
   lines-by d _ _ _ (is-closed e) dk k cs ss more = (closes-say system mode d dk e .is, more)
 
   pub lines-hold : (cs : List Call) (d : Desk) → DeskOk system mode d → AreLines system (sentBy d cs)
@@ -101,18 +96,25 @@ module _ (system mode : ℕ) where
   unfolding Blocks
   blocks-by d c _ _ (is-quiet w ws q) dk k cs ss more h = more h
   blocks-by d _ _ _ (is-opened f v n t held lent e) dk k cs ss more h = more (tt, h .1)
-  blocks-by d _ _ _ (is-finished kind vs e) dk k cs ss more h =
-      let two = ap (λ (z : Laid). length (laidNumbers z)) e in
-      let at = can-add (d .writer) (d .now .words) kind vs (laid-ok (d .writer) (d .now .words) kind vs two) .begun in
-      more
-      (one-block (d .now .settings .block) (d .now .blocks) (completeNow d kind vs) (h .0) ((block-whole system mode d kind vs dk at e, some-laid d kind vs two (h .1)), tt), tt)
-  blocks-by d _ _ _ (is-unfinished kind vs e) dk k cs ss more h = more (h .0, some-laid d kind vs (ap (λ (z : Laid). length (laidNumbers z)) e) (h .1))
+  blocks-by d _ _ _ (is-finished kind vs clear e) dk k cs ss more h =
+      let a = adds-say system mode d kind vs dk clear in
+      more (one-block (d .now .settings .block) (d .now .blocks) (completeNow d kind vs) (h .0) ((a .whole e, one-piece (d .pieces) (pieceNow d kind vs) (h .1) (a .some)), tt), tt)
+  blocks-by d _ _ _ (is-unfinished kind vs clear e) dk k cs ss more h =
+      more (h .0, one-piece (d .pieces) (pieceNow d kind vs) (h .1) (adds-say system mode d kind vs dk clear .some))
   blocks-by d _ _ _ (is-closed e) dk k cs ss more h = (h .0, more h)
 
   pub blocks-hold : (cs : List Call) (d : Desk) → DeskOk system mode d → AreBlocks (d .now .settings .block) mode (d .now .blocks) × NoneEmpty (d .pieces)
       → HaveBlocks mode (sentBy d cs)
   unfolding Blocks
   blocks-hold = along system mode true (λ (d : Desk) (cs : List Call) (ss : List Sent). Blocks d → HaveBlocks mode ss) (λ d h. tt) blocks-by
+
+-- a writer in any possible state with no line open: its lines are 01's, and the pieces of its blocks, joined, are their words, those laid before among them
+module _ (w : Writer) (us : List ℕ) (possible : impossible w ≡ false) (shut : w .place ≡ Shut) (values : ValuesOf (w .mode) (w .rest) us) (cs : List Call) where
+  pub any-lines : AreLines (w .system) (sentBy (standing w us) cs)
+  any-lines = lines-hold (w .system) (w .mode) cs (standing w us) (standing-ok w us possible values shut)
+
+  pub any-blocks : HaveBlocks (w .mode) (sentBy (standing w us) cs)
+  any-blocks = blocks-hold (w .system) (w .mode) cs (standing w us) (standing-ok w us possible values shut) (tt, standing-some w us possible values)
 
 -- ---- all lines kept
 abbrev all-kept : List Sent → List Fate
@@ -171,9 +173,9 @@ given-back lines before gone _ _ _ (one-replaced k dropped least more) g e = abs
 
 pub demand-2 : Demand2
 demand-2 = record {
-  lines = λ system mode cs. lines-hold system mode cs (start system mode) (start-ok system mode);
+  lines = λ system mode cs. any-lines (fresh-writer system mode) [] (fresh-possible system mode) refl tt cs;
   any-line = λ w f v n t lent w′ line ps held c. written w f v n t lent w′ line ps held c .is;
-  blocks = λ system mode cs. blocks-hold system mode cs (start system mode) (start-ok system mode) (tt, tt);
+  blocks = λ system mode cs. any-blocks (fresh-writer system mode) [] (fresh-possible system mode) refl tt cs;
   accepted = accepted-exactly;
   heard = λ system mode cs room long hs r.
       let ss = sentFresh system mode cs in

@@ -14,14 +14,11 @@ use Rattle.course.specs.declared.Last.the-variants.{Unknown, Number}
 use Rattle.course.specs.Course.{isAt}
 use Rattle.writer.specs.declared.state.Rest.{Rest}
 use Rattle.writer.specs.declared.state.Rest.the-variants.{Whole}
-use Rattle.writer.specs.declared.state.Laid.{Laid}
-use Rattle.writer.specs.Answers.{laidNumbers, Left}
-use Rattle.writer.specs.Adding.{adding}
+use Rattle.writer.specs.Answers.{Left}
 use Rattle.writer.specs.State.{laidOf}
 use Rattle.writer.specs.Course.{asLaid}
 use Rattle.writer.proofs.Keeps.{close-clear, close-leaves}
-use Rattle.writer.proofs.Pieces.{laid-ok}
-use Rattle.writer.proofs.Refusals.{can-close}
+use Rattle.writer.proofs.Refusals.{can-add, can-close}
 use Rattle.reader.specs.State.{capacity, fresh}
 use Rattle.demands.specs.Sending.{Call, Block, Complete, Sent, Desk, start, valuesNow, pieceNow, completeNow, sentBy, sentFresh, blocksOf}
 use Rattle.demands.specs.Hearing.{Heard, is-end, Reads, handedOut}
@@ -30,8 +27,8 @@ use Rattle.demands.specs.Demand3.{Transmission, From3, Demand3}
 use Rattle.demands.proofs.LineEnds.{readable, line-within}
 use Rattle.demands.proofs.DeskOk.{DeskOk}
 use Rattle.demands.proofs.DeskDoes.{Does, is-quiet, is-opened, is-finished, is-unfinished, is-closed}
-use Rattle.demands.proofs.DeskLaws.{start-ok, along}
-use Rattle.demands.proofs.DeskAdds.{add-places}
+use Rattle.demands.proofs.DeskStart.{start-ok}
+use Rattle.demands.proofs.DeskLaws.{along}
 use Rattle.demands.proofs.Ahead.{blocksHeard, Agrees, Tells, nothing-more, one-kept, one-removed, one-replaced}
 use Rattle.demands.proofs.PieceRun.{all-lost}
 use Rattle.demands.proofs.AddLine.{survivors-append}
@@ -56,21 +53,17 @@ module _ (system mode : ℕ) (keeps : ℕ → Bool) where
   unfolding NowLost
   shut-start = λ at k. refl
 
-  -- a line on which something was laid is open
-  laid-open : (d : Desk) (kind : ℕ) (vs : List ℕ) → length (laidNumbers (adding (d .writer) (d .now .words) kind vs .answer)) ≡ 2 → isAt (d .writer .place) ≡ true
-  laid-open d kind vs two = add-places d kind vs (laid-ok (d .writer) (d .now .words) kind vs two)
-
   lost-by : (d : Desk) (c : Call) (d′ : Desk) (ts : List Sent) → Does true d c d′ ts → DeskOk system mode d → DeskOk system mode d′ → (cs : List Call) (ss : List Sent)
       → (NowLost d′ → AllLost keeps (d′ .closed) ss) → NowLost d → AllLost keeps (d .closed) (ts ++ ss)
   unfolding NowLost
   lost-by d c _ _ (is-quiet w ws q) dk k cs ss more h = more (λ at. h (sym (ap isAt (q .place)) ∙ at))
   lost-by d _ _ _ (is-opened f v n t held lent e) dk k cs ss more h = more (λ at i. refl)
-  lost-by d _ _ _ (is-finished kind vs e) dk k cs ss more h =
+  lost-by d _ _ _ (is-finished kind vs clear e) dk k cs ss more h =
       more
       (λ at i.
       survivors-append keeps (d .now .blocks) (completeNow d kind vs ∷ [])
-      ∙ ap₂ (λ (x y : List Block). x ++ y) (h (laid-open d kind vs (ap (λ (z : Laid). length (laidNumbers z)) e)) i) (pick-false _ _ (all-lost keeps (d .pieces) (pieceNow d kind vs) i)))
-  lost-by d _ _ _ (is-unfinished kind vs e) dk k cs ss more h = more (λ at. h (laid-open d kind vs (ap (λ (z : Laid). length (laidNumbers z)) e)))
+      ∙ ap₂ (λ (x y : List Block). x ++ y) (h (can-add (d .writer) (d .now .words) kind vs clear .begun) i) (pick-false _ _ (all-lost keeps (d .pieces) (pieceNow d kind vs) i)))
+  lost-by d _ _ _ (is-unfinished kind vs clear e) dk k cs ss more h = more (λ at. h (can-add (d .writer) (d .now .words) kind vs clear .begun))
   lost-by d _ _ _ (is-closed e) dk k cs ss more h =
       let clear = close-clear (d .writer) (d .now .words) e in (
         h (can-close (d .writer) (d .now .words) clear .begun),

@@ -12,21 +12,20 @@ use Rattle.words.specs.Modes.{wordOf}
 use Rattle.line.specs.Fixed.{isVariable, sizeOf}
 use Rattle.writer.specs.declared.state.Rest.{Rest}
 use Rattle.writer.specs.declared.state.Rest.the-variants.{Whole, Part}
-use Rattle.writer.specs.declared.state.Laid.{Laid}
 use Rattle.writer.specs.declared.state.Laid.the-variants.{Finished, Unfinished}
 use Rattle.writer.specs.State.{isPart, laidOf}
-use Rattle.writer.specs.Answers.{laidNumbers, Added}
+use Rattle.writer.specs.Answers.{Added}
 use Rattle.writer.specs.Block.{fixedWords}
 use Rattle.writer.specs.Adding.{addFault, todo, room, lay, adding}
 use Rattle.writer.specs.Course.{pieceOf, joined}
 use Rattle.writer.proofs.Keeps.{add-leaves}
 use Rattle.writer.proofs.Stays.{add-possible}
-use Rattle.writer.proofs.Pieces.{laid-ok, rest-left, varies}
+use Rattle.writer.proofs.Pieces.{rest-left, varies}
 use Rattle.writer.proofs.Writing.{Open, laid-on}
 use Rattle.demands.specs.Sending.{Piece, Complete, Desk, with, valuesNow, pieceNow, addedBy}
 use Rattle.demands.proofs.DeskOk.{AllLong, OpenNow, Owing, DeskOk}
 use Rattle.demands.proofs.DeskCalls.{joined-append}
-use Rattle.demands.proofs.DeskAdds.{finds, now-open, lent-now, all-now, words-now, goes-now, fills-say}
+use Rattle.demands.proofs.DeskAdds.{now-open, lent-now, all-now, words-now, goes-now, adds-say}
 
 -- ---- a piece more, as long as the others
 long-more : (n : ℕ) (ps : List (List ℕ)) (p : List ℕ) → AllLong n ps → length p ≡ n → AllLong n (ps ++ (p ∷ []))
@@ -71,7 +70,7 @@ module _ (system mode : ℕ) (d : Desk) (kind : ℕ) (vs : List ℕ) (ok : DeskO
 
   piece-long : isVariable (d .now .settings .block) ≡ false → length (pieceOf (d .writer) (d .now .words) kind vs) ≡ sizeOf (d .now .settings .block)
   piece-long v =
-      let fills = fills-say system mode d kind vs ok (finds system mode d kind vs ok clear .begun) v clear in
+      let fills = adds-say system mode d kind vs ok clear .fills v in
       ap length (fills .piece) ∙ fixed-long mode kind vs ∙ fills .long
 
   open-after : (bs : List Complete) (us : List ℕ) (ps : List Piece)
@@ -96,9 +95,9 @@ module _ (system mode : ℕ) (d : Desk) (kind : ℕ) (vs : List ℕ) (ok : DeskO
   pub rest-whole : adding (d .writer) (d .now .words) kind vs .answer ≡ Finished → adding (d .writer) (d .now .words) kind vs .state .rest ≡ Whole
   rest-whole e = ap (λ (y : Added). y .state .rest) leaves ∙ pick-true _ _ (eq-eqb _ _ (all-now system mode d kind vs ok clear e))
 
-  by-finished : adding (d .writer) (d .now .words) kind vs .answer ≡ Finished
+  pub finished-ok : adding (d .writer) (d .now .words) kind vs .answer ≡ Finished
       → DeskOk system mode (addedBy Finished (adding (d .writer) (d .now .words) kind vs) d kind vs)
-  by-finished e =
+  finished-ok e =
       record {
         of-system = ap (λ (y : Added). y .state .system) leaves ∙ ok .of-system;
         of-mode = ap (λ (y : Added). y .state .mode) leaves ∙ ok .of-mode;
@@ -134,9 +133,9 @@ module _ (system mode : ℕ) (d : Desk) (kind : ℕ) (vs : List ℕ) (ok : DeskO
       (subst (λ (m : ℕ). Owing mode desk c m (laidOf (d .writer .rest) + k)) (ap valuesOf same)
       (subst (λ (h : ℕ). Owing mode desk h (length vs) (laidOf (d .writer .rest) + k)) (ap kindOf same) (owing-now e)))
 
-  by-unfinished : adding (d .writer) (d .now .words) kind vs .answer ≡ Unfinished
+  pub unfinished-ok : adding (d .writer) (d .now .words) kind vs .answer ≡ Unfinished
       → DeskOk system mode (addedBy Unfinished (adding (d .writer) (d .now .words) kind vs) d kind vs)
-  by-unfinished e =
+  unfinished-ok e =
       record {
         of-system = ap (λ (y : Added). y .state .system) leaves ∙ ok .of-system;
         of-mode = ap (λ (y : Added). y .state .mode) leaves ∙ ok .of-mode;
@@ -145,14 +144,3 @@ module _ (system mode : ℕ) (d : Desk) (kind : ℕ) (vs : List ℕ) (ok : DeskO
         none-owing = λ r. absurd (true-false (sym (ap isPart (rest-left (d .writer) (d .now .words) kind vs clear e)) ∙ ap isPart r));
         owing = owing-as e;
       }
-
--- ---- an accepted addition
-pub finished-ok : (system mode : ℕ) (d : Desk) (kind : ℕ) (vs : List ℕ) → DeskOk system mode d → adding (d .writer) (d .now .words) kind vs .answer ≡ Finished
-    → DeskOk system mode (addedBy Finished (adding (d .writer) (d .now .words) kind vs) d kind vs)
-finished-ok system mode d kind vs ok e =
-    by-finished system mode d kind vs ok (laid-ok (d .writer) (d .now .words) kind vs (ap (λ (a : Laid). length (laidNumbers a)) e)) e
-
-pub unfinished-ok : (system mode : ℕ) (d : Desk) (kind : ℕ) (vs : List ℕ) → DeskOk system mode d → adding (d .writer) (d .now .words) kind vs .answer ≡ Unfinished
-    → DeskOk system mode (addedBy Unfinished (adding (d .writer) (d .now .words) kind vs) d kind vs)
-unfinished-ok system mode d kind vs ok e =
-    by-unfinished system mode d kind vs ok (laid-ok (d .writer) (d .now .words) kind vs (ap (λ (a : Laid). length (laidNumbers a)) e)) e

@@ -18,10 +18,8 @@ use Rattle.course.specs.declared.Place.{Place}
 use Rattle.course.specs.Course.{isAt}
 use Rattle.writer.specs.declared.state.Rest.{Rest}
 use Rattle.writer.specs.declared.state.Rest.the-variants.{Whole, Part}
-use Rattle.writer.specs.declared.state.Laid.{Laid}
 use Rattle.writer.specs.declared.state.Laid.the-variants.{Finished, Unfinished}
 use Rattle.writer.specs.State.{most, laidOf}
-use Rattle.writer.specs.Answers.{laidNumbers}
 use Rattle.writer.specs.Block.{blockWords, fixedWords, wordsIn}
 use Rattle.writer.specs.Adding.{valued, illShaped, isOther, addFault, todo, room, adding}
 use Rattle.writer.specs.Course.{pieceOf, asLaid}
@@ -29,16 +27,12 @@ use Rattle.writer.proofs.BlockLaws.{words-long}
 use Rattle.writer.proofs.Legal.{each-take, each-drop}
 use Rattle.writer.proofs.Refusals.{CanAdd, can-add, count, count-variable}
 use Rattle.writer.proofs.Stays.{words-variable, words-fixed, part-laid, fixed-whole}
-use Rattle.writer.proofs.Pieces.{laid-ok, piece-laid, all-laid, some-left, fixed-once, as-long, as-before, as-behind}
+use Rattle.writer.proofs.Pieces.{piece-laid, all-laid, some-left, fixed-once, as-long, as-before, as-behind}
 use Rattle.demands.specs.Sending.{Desk, valuesNow, pieceNow, joinedPieces}
 use Rattle.demands.proofs.BlockRun.{block-long}
 use Rattle.demands.proofs.DeskOk.{OpenNow, DeskOk}
-use Rattle.demands.proofs.Outcomes.{Varies, Fills}
+use Rattle.demands.proofs.Outcomes.{Varies, Fills, Adds}
 use Rattle.demands.proofs.DeskCalls.{joined-pieces-append}
-
--- accepted additions are on an open line
-pub add-places : (d : Desk) (kind : ℕ) (vs : List ℕ) → addFault (d .writer) (length (d .now .words)) kind vs ≡ 0 → isAt (d .writer .place) ≡ true
-add-places d kind vs clear = can-add (d .writer) (d .now .words) kind vs clear .begun
 
 -- ---- the values as laid, j words before and the others now, against those lent now
 pub record Lent (mode kind j : ℕ) (laid values vs : List ℕ) : Type 0 where
@@ -189,36 +183,25 @@ module _ (system mode : ℕ) (d : Desk) (kind : ℕ) (vs : List ℕ) (ok : DeskO
         ∙ ap (fixedWords mode kind) (sym (now-fills .values-are))
         ∙ sym (words-fixed (d .now .settings .block) mode kind (valuesNow d vs) (ap isVariable (sym now-block) ∙ v))
 
--- ---- an accepted addition
-pub varies-say : (system mode : ℕ) (d : Desk) (kind : ℕ) (vs : List ℕ) → DeskOk system mode d → isAt (d .writer .place) ≡ true
-    → isVariable (d .now .settings .block) ≡ true → addFault (d .writer) (length (d .now .words)) kind vs ≡ 0 → Varies mode d kind vs
-varies-say system mode d kind vs ok at v clear = now-varies system mode d kind vs ok clear (ap isVariable (now-block system mode d kind vs ok clear) ∙ v)
+  -- ---- any line
+  piece-some : 1 ≤ length (pieceOf (d .writer) (d .now .words) kind vs)
+  piece-some =
+      let ws = todo (d .writer) kind vs in
+      let long : length (pieceOf (d .writer) (d .now .words) kind vs) ≡ min k (length ws) =
+      ap length (piece-laid (d .writer) (d .now .words) kind vs clear) ∙ length-take k ws in
+      omega (arith, long, some-laid)
 
-pub fills-say : (system mode : ℕ) (d : Desk) (kind : ℕ) (vs : List ℕ) → DeskOk system mode d → isAt (d .writer .place) ≡ true
-    → isVariable (d .now .settings .block) ≡ false → addFault (d .writer) (length (d .now .words)) kind vs ≡ 0 → Fills mode d kind vs
-fills-say system mode d kind vs ok at v clear = now-fills system mode d kind vs ok clear (ap isVariable (now-block system mode d kind vs ok clear) ∙ v)
-
--- a finished block: its pieces, joined, are its words
-pub block-whole : (system mode : ℕ) (d : Desk) (kind : ℕ) (vs : List ℕ) → DeskOk system mode d → isAt (d .writer .place) ≡ true
-    → adding (d .writer) (d .now .words) kind vs .answer ≡ Finished
-    → joinedPieces (d .pieces ++ (pieceNow d kind vs ∷ [])) ≡ wordsIn (d .now .settings .block) mode kind (valuesNow d vs)
-block-whole system mode d kind vs ok at e = go (isVariable (d .writer .settings .block)) refl
-  where
-    clear : addFault (d .writer) (length (d .now .words)) kind vs ≡ 0
-    clear = laid-ok (d .writer) (d .now .words) kind vs (ap (λ (a : Laid). length (laidNumbers a)) e)
-
-    go : (b : Bool) → isVariable (d .writer .settings .block) ≡ b
-        → joinedPieces (d .pieces ++ (pieceNow d kind vs ∷ [])) ≡ wordsIn (d .now .settings .block) mode kind (valuesNow d vs)
-    go true v = whole-variable system mode d kind vs ok clear v e
-    go false v = whole-fixed system mode d kind vs ok clear v
-
--- an accepted addition lays one word or more: there is room for one, and one is left to lay
-pub piece-some : (d : Desk) (kind : ℕ) (vs : List ℕ) → addFault (d .writer) (length (d .now .words)) kind vs ≡ 0 → 1 ≤ length (pieceOf (d .writer) (d .now .words) kind vs)
-piece-some d kind vs clear =
-    let w = d .writer in
-    let a = can-add w (d .now .words) kind vs clear in
-    let ws = todo w kind vs in
-    let left = length-drop (laidOf (w .rest)) (wordsIn (w .settings .block) (w .mode) kind vs) in
-    let all = words-long (w .settings .block) (w .mode) kind vs in
-    let long : length (pieceOf (d .writer) (d .now .words) kind vs) ≡ min (room w ws) (length ws) = ap length (piece-laid w (d .now .words) kind vs clear) ∙ length-take (room w ws) ws in
-    omega (arith, a .room, a .left)
+  pub adds-say : Adds mode d kind vs
+  adds-say = record {
+    begun = finds .begun;
+    number = finds .number;
+    some = piece-some;
+    varies = λ v. now-varies (ap isVariable now-block ∙ v);
+    fills = λ v. now-fills (ap isVariable now-block ∙ v);
+    whole = λ e. go e (isVariable (d .writer .settings .block)) refl;
+  }
+    where
+      go : adding (d .writer) (d .now .words) kind vs .answer ≡ Finished → (b : Bool) → isVariable (d .writer .settings .block) ≡ b
+          → joinedPieces (d .pieces ++ (pieceNow d kind vs ∷ [])) ≡ wordsIn (d .now .settings .block) mode kind (valuesNow d vs)
+      go e true v = whole-variable v e
+      go e false v = whole-fixed v

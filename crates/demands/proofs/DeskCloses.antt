@@ -58,7 +58,7 @@ filled-by end place false e p at = absurd (true-false (sym p))
 filled-by end Shut true e p at = absurd (true-false (sym at))
 filled-by end (At q) true e p at = leb-true end q (not-false _ e)
 
-varied-by : (part variable : Bool) → (part && not variable) ≡ false → part ≡ true → variable ≡ true
+pub varied-by : (part variable : Bool) → (part && not variable) ≡ false → part ≡ true → variable ≡ true
 varied-by true variable e p = not-false variable e
 varied-by false variable e p = absurd (true-false (sym p))
 

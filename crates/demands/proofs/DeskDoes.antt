@@ -4,6 +4,7 @@ use mathlib.Core.Path.{_≡_, refl, sym, ap, _∙_, subst}
 use mathlib.Core.Bool.{Bool, true, false}
 use mathlib.Core.List.{List, [], _∷_}
 use Prim.Native.Nat.{ℕ}
+use lib.ListN.{length}
 use Rattle.line.specs.declared.settings.Settings.{Settings}
 use Rattle.line.specs.Settings.{Held}
 use Rattle.course.specs.Course.{isAt}
@@ -14,9 +15,10 @@ use Rattle.writer.specs.declared.state.Laid.{Laid}
 use Rattle.writer.specs.declared.state.Laid.the-variants.{Not, Finished, Unfinished}
 use Rattle.writer.specs.State.{impossible}
 use Rattle.writer.specs.Opening.{opening}
-use Rattle.writer.specs.Adding.{adding}
+use Rattle.writer.specs.Adding.{addFault, adding}
 use Rattle.writer.specs.Closing.{closing}
 use Rattle.writer.specs.Course.{joined}
+use Rattle.writer.proofs.Pieces.{finished-clear, unfinished-clear}
 use Rattle.writer.proofs.Writing.{Open}
 use Rattle.demands.specs.Sending.{Call, opens, adds, closes, Sent, Desk, with, openedBy, addedBy, closedBy, sendsBy, after, sends}
 use Rattle.demands.proofs.DeskOk.{DeskOk}
@@ -42,9 +44,9 @@ pub data Does (told : Bool) (d : Desk) : Call → Desk → List Sent → Type 0 
   is-quiet : {c : Call} (w : Writer) (ws : List ℕ) → Quiet told d w ws → Does told d c (moves d w ws) []
   is-opened : (f v : Bool) (n : ℕ) (t : Settings) (held : Held t) (lent : List ℕ) → opening (d .writer) f v n t lent .answer ≡ Done
       → Does told d (opens f v n t held lent) (openedBy Done (opening (d .writer) f v n t lent) d f v n t) []
-  is-finished : (kind : ℕ) (vs : List ℕ) → adding (d .writer) (d .now .words) kind vs .answer ≡ Finished
+  is-finished : (kind : ℕ) (vs : List ℕ) → addFault (d .writer) (length (d .now .words)) kind vs ≡ 0 → adding (d .writer) (d .now .words) kind vs .answer ≡ Finished
       → Does told d (adds kind vs) (addedBy Finished (adding (d .writer) (d .now .words) kind vs) d kind vs) []
-  is-unfinished : (kind : ℕ) (vs : List ℕ) → adding (d .writer) (d .now .words) kind vs .answer ≡ Unfinished
+  is-unfinished : (kind : ℕ) (vs : List ℕ) → addFault (d .writer) (length (d .now .words)) kind vs ≡ 0 → adding (d .writer) (d .now .words) kind vs .answer ≡ Unfinished
       → Does told d (adds kind vs) (addedBy Unfinished (adding (d .writer) (d .now .words) kind vs) d kind vs) []
   is-closed : closing (d .writer) (d .now .words) .answer ≡ Done
       → Does told d closes (closedBy Done (closing (d .writer) (d .now .words)) d)
@@ -67,8 +69,8 @@ does told d (adds kind vs) = by (adding (d .writer) (d .now .words) kind vs .ans
   where
     by : (a : Laid) → adding (d .writer) (d .now .words) kind vs .answer ≡ a → Does told d (adds kind vs) (after d (adds kind vs)) []
     by (Not k) e = subst (λ (x : Desk). Does told d (adds kind vs) x []) (sym (add-refused-same d kind vs k e)) (refused told d (adds kind vs))
-    by Finished e = subst (λ (x : Desk). Does told d (adds kind vs) x []) (sym (after-finished d kind vs e)) (is-finished kind vs e)
-    by Unfinished e = subst (λ (x : Desk). Does told d (adds kind vs) x []) (sym (after-unfinished d kind vs e)) (is-unfinished kind vs e)
+    by Finished e = subst (λ (x : Desk). Does told d (adds kind vs) x []) (sym (after-finished d kind vs e)) (is-finished kind vs (finished-clear (d .writer) (d .now .words) kind vs e) e)
+    by Unfinished e = subst (λ (x : Desk). Does told d (adds kind vs) x []) (sym (after-unfinished d kind vs e)) (is-unfinished kind vs (unfinished-clear (d .writer) (d .now .words) kind vs e) e)
 does told d closes = by (closing (d .writer) (d .now .words) .answer) refl
   where
     by : (a : Answer) → closing (d .writer) (d .now .words) .answer ≡ a

@@ -1,37 +1,21 @@
 -- The desk holds what it held, whatever is called and however it is answered; and the way to prove a law of all courses of calls.
 -- Assumes nothing.
-use mathlib.Core.Path.{refl, sym, ap}
 use mathlib.Core.Bool.{Bool, true}
 use mathlib.Core.List.{List, [], _∷_, _++_}
 use Prim.Native.Nat.{ℕ}
-use Rattle.lists.proofs.Tests.{true-false}
-use Rattle.writer.specs.State.{isPart}
-use Rattle.writer.proofs.Stays.{fresh-possible}
-use Rattle.demands.specs.Sending.{Call, Sent, Desk, start, after, sends, sentBy}
+use Rattle.demands.specs.Sending.{Call, Sent, Desk, after, sends, sentBy}
 use Rattle.demands.proofs.DeskOk.{DeskOk}
 use Rattle.demands.proofs.DeskDoes.{Does, is-quiet, is-opened, is-finished, is-unfinished, is-closed, does, quiet-ok}
 use Rattle.demands.proofs.DeskOpens.{opened-ok}
 use Rattle.demands.proofs.DeskAdded.{finished-ok, unfinished-ok}
 use Rattle.demands.proofs.DeskCloses.{closed-ok}
 
--- a fresh writer: no line is open, and no block is unfinished
-pub start-ok : (system mode : ℕ) → DeskOk system mode (start system mode)
-start-ok system mode =
-    record {
-      of-system = refl;
-      of-mode = refl;
-      possible = fresh-possible system mode;
-      opened = λ at. absurd (true-false (sym at));
-      none-owing = λ r. refl;
-      owing = λ kind n j r. absurd (true-false (sym (ap isPart r)));
-    }
-
 -- ---- each call, by what it does
 ok-by : (system mode : ℕ) (told : Bool) (d : Desk) (c : Call) (d′ : Desk) (ts : List Sent) → Does told d c d′ ts → DeskOk system mode d → DeskOk system mode d′
 ok-by system mode told d c _ _ (is-quiet w ws q) ok = quiet-ok system mode told d w ws q ok
 ok-by system mode told d _ _ _ (is-opened f v n t held lent e) ok = opened-ok system mode d f v n t lent held ok e
-ok-by system mode told d _ _ _ (is-finished kind vs e) ok = finished-ok system mode d kind vs ok e
-ok-by system mode told d _ _ _ (is-unfinished kind vs e) ok = unfinished-ok system mode d kind vs ok e
+ok-by system mode told d _ _ _ (is-finished kind vs clear e) ok = finished-ok system mode d kind vs ok clear e
+ok-by system mode told d _ _ _ (is-unfinished kind vs clear e) ok = unfinished-ok system mode d kind vs ok clear e
 ok-by system mode told d _ _ _ (is-closed e) ok = closed-ok system mode d ok e
 
 pub after-ok : (system mode : ℕ) (d : Desk) (c : Call) → DeskOk system mode d → DeskOk system mode (after d c)

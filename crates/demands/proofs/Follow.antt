@@ -16,14 +16,10 @@ use Rattle.course.specs.declared.Place.{Place}
 use Rattle.course.specs.declared.Place.the-variants.{Shut, At}
 use Rattle.course.specs.Course.{isAt}
 use Rattle.writer.specs.declared.state.Answer.the-variants.{Done}
-use Rattle.writer.specs.declared.state.Laid.{Laid}
-use Rattle.writer.specs.State.{most, isPart}
-use Rattle.writer.specs.Answers.{laidNumbers}
-use Rattle.writer.specs.Adding.{addFault, adding}
+use Rattle.writer.specs.State.{isPart}
 use Rattle.writer.specs.Closing.{closing}
 use Rattle.writer.proofs.Keeps.{close-clear}
-use Rattle.writer.proofs.Pieces.{laid-ok}
-use Rattle.writer.proofs.Refusals.{can-add, can-close}
+use Rattle.writer.proofs.Refusals.{can-close}
 use Rattle.reader.specs.Phases.{isBusy}
 use Rattle.reader.specs.Jump.{jumpFrom}
 use Rattle.demands.specs.Sending.{Call, closes, Sent, Desk, with, closedBy, sentBy}
@@ -36,12 +32,11 @@ use Rattle.demands.proofs.DeskOk.{OpenNow, DeskOk}
 use Rattle.demands.proofs.Outcomes.{Closes}
 use Rattle.demands.proofs.DeskDoes.{Does, is-quiet, is-opened, is-finished, is-unfinished, is-closed}
 use Rattle.demands.proofs.DeskOpens.{opens-say}
-use Rattle.demands.proofs.DeskAdds.{varies-say, fills-say}
 use Rattle.demands.proofs.DeskCloses.{closes-say}
 use Rattle.demands.proofs.DeskLaws.{along}
 use Rattle.demands.proofs.Ahead.{blocksHeard, Noted, Ahead, RoomFor, Agrees, Noticed, Tells, nothing-more, one-kept, one-removed, one-replaced}
 use Rattle.demands.proofs.StartLine.{opened-ahead}
-use Rattle.demands.proofs.AddLine.{Says, finished-ahead, unfinished-ahead}
+use Rattle.demands.proofs.AddLine.{finished-ahead, unfinished-ahead}
 use Rattle.demands.proofs.QuietLine.{quiet-ahead}
 use Rattle.demands.proofs.EndLine.{Found, found, own-input, refusal-input, area-heard, area-left, shut-ahead, kept-between, removed-between, replaced-between}
 
@@ -66,21 +61,6 @@ module _ (system mode cap : ℕ) (keeps : ℕ → Bool) (told : Bool) where
       RoomFor cap cs → (fs : List Fate) (gone : Bool) (ear : Ear) → Agrees keeps (d .closed) fs → Refusing system mode fs → length fs ≡ length ss
       → Noticed (systemOf system .lines) told (ear .last) gone fs ss → Ahead system mode cap keeps told gone d ear
       → Tells (systemOf system .lines) keeps (ear .last) gone fs ss (heardAlong system mode ear (inputsOf system mode (remain fs ss)))
-
-  -- ---- an accepted addition
-  module _ (gone : Bool) (d : Desk) (ear : Ear) (kind : ℕ) (vs : List ℕ) (two : length (laidNumbers (adding (d .writer) (d .now .words) kind vs .answer)) ≡ 2)
-      (room-for : length vs ≤ most → length vs ≤ cap) (dk : DeskOk system mode d) (a : Ahead system mode cap keeps told gone d ear) where
-    laid : addFault (d .writer) (length (d .now .words)) kind vs ≡ 0
-    laid = laid-ok (d .writer) (d .now .words) kind vs two
-
-    on-line : isAt (d .writer .place) ≡ true
-    on-line = can-add (d .writer) (d .now .words) kind vs laid .begun
-
-    fit : length vs ≤ cap
-    fit = room-for (can-add (d .writer) (d .now .words) kind vs laid .number)
-
-    says : Says system mode cap keeps told gone d ear kind vs dk laid on-line fit a
-    says = record { varies = λ v. varies-say system mode d kind vs dk on-line v laid; fills = λ v. fills-say system mode d kind vs dk on-line v laid }
 
   -- ---- a line closed
   module _ (d : Desk) (e : closing (d .writer) (d .now .words) .answer ≡ Done) (dk : DeskOk system mode d) where
@@ -206,16 +186,10 @@ module _ (system mode cap : ℕ) (keeps : ℕ → Bool) (told : Bool) where
       let o = opens-say system mode d f v n t lent dk e in
       let now = k .opened (ap isAt (o .place)) in
       ih (r .1) fs gone ear agrees refusing long noticed (opened-ahead system mode cap keeps told gone d ear f v n t lent dk o (now .one) (now .most-lines) a k)
-  goal-by d _ _ _ (is-finished kind vs e) dk k cs ss ih r fs gone ear agrees refusing long noticed a =
-      let two = ap (λ (z : Laid). length (laidNumbers z)) e in
-      ih (r .1) fs gone ear agrees refusing long noticed
-      (finished-ahead system mode cap keeps told gone d ear kind vs dk (laid gone d ear kind vs two (r .0) dk a) (on-line gone d ear kind vs two (r .0) dk a)
-      (fit gone d ear kind vs two (r .0) dk a) a (says gone d ear kind vs two (r .0) dk a) e)
-  goal-by d _ _ _ (is-unfinished kind vs e) dk k cs ss ih r fs gone ear agrees refusing long noticed a =
-      let two = ap (λ (z : Laid). length (laidNumbers z)) e in
-      ih (r .1) fs gone ear agrees refusing long noticed
-      (unfinished-ahead system mode cap keeps told gone d ear kind vs dk (laid gone d ear kind vs two (r .0) dk a) (on-line gone d ear kind vs two (r .0) dk a)
-      (fit gone d ear kind vs two (r .0) dk a) a (says gone d ear kind vs two (r .0) dk a) e)
+  goal-by d _ _ _ (is-finished kind vs clear e) dk k cs ss ih r fs gone ear agrees refusing long noticed a =
+      ih (r .1) fs gone ear agrees refusing long noticed (finished-ahead system mode cap keeps told gone d ear kind vs dk clear (r .0) a e)
+  goal-by d _ _ _ (is-unfinished kind vs clear e) dk k cs ss ih r fs gone ear agrees refusing long noticed a =
+      ih (r .1) fs gone ear agrees refusing long noticed (unfinished-ahead system mode cap keeps told gone d ear kind vs dk clear (r .0) a e)
   goal-by d _ _ _ (is-closed e) dk k cs ss ih r fs gone ear agrees refusing long noticed a =
       done-goal d e dk cs ss ih r fs gone ear agrees refusing long noticed a
 

@@ -28,7 +28,7 @@ use Rattle.demands.specs.Damage.{Fate, kept, removed, replaced, remain, 
 use Rattle.demands.specs.Demand2.{AreLines, givenBack}
 use Rattle.demands.specs.Demand3.{Follows, Consecutive, HandsOut}
 use Rattle.demands.proofs.LineEnds.{readable}
-use Rattle.demands.proofs.DeskLaws.{start-ok}
+use Rattle.demands.proofs.DeskStart.{start-ok}
 use Rattle.demands.proofs.PieceRun.{all-lost}
 use Rattle.demands.proofs.Demand2Holds.{demand-2}
 use Rattle.demands.proofs.FrameCourse.{one-set, desk, Values, head-of, tail-of, piece, block-line, fillers, first-of, second-of, Lays, block-sent, Fillers, fillers-sent, none-sent}

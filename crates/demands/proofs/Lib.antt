@@ -15,6 +15,7 @@ pub mod DeskOpens
 pub mod DeskAdds
 pub mod DeskAdded
 pub mod DeskCloses
+pub mod DeskStart
 pub mod DeskDoes
 pub mod DeskLaws
 pub mod Ahead
