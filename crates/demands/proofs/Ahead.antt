@@ -94,24 +94,16 @@ pub record Ahead (system mode cap : ℕ) (keeps : ℕ → Bool) (told gone : Boo
   pub none-dropped : isAt (d .writer .place) ≡ true → Noted (systemOf system .lines) told (e .last) gone (d .now .number) → gone ≡ false → (isBusy (e .phase) && not (goesOnIn system mode e (d .now .number) (d .now .settings))) ≡ false
   pub missing : keeps (d .closed) ≡ false → (p : ℕ) → d .writer .place ≡ At p → 1 ≤ p → isPart (d .writer .rest) ≡ true → allOn keeps (d .pieces) ≡ false
 
--- ---- the calls still to come: the room is long enough for each block that an addition may take
-abbrev pub RoomForOne : ℕ → Call → Type 0
-RoomForOne cap (opens f v n t held lent) = Unit {0}
-RoomForOne cap (adds kind vs) = length vs ≤ most → length vs ≤ cap
-RoomForOne cap closes = Unit {0}
+-- ---- the room is long enough for each block that a call still to come may add
+abbrev pub RoomFor : ℕ → Call → Type 0
+RoomFor cap (opens f v n t held lent) = Unit {0}
+RoomFor cap (adds kind vs) = length vs ≤ most → length vs ≤ cap
+RoomFor cap closes = Unit {0}
 
-abbrev pub RoomFor : ℕ → List Call → Type 0
-RoomFor cap [] = Unit {0}
-RoomFor cap (c ∷ cs) = RoomForOne cap c × RoomFor cap cs
-
-pub room-for-all : (cap : ℕ) → most ≤ cap → (cs : List Call) → RoomFor cap cs
-room-for-all cap h [] = tt
-room-for-all cap h (c ∷ cs) = (one c, room-for-all cap h cs)
-  where
-    one : (x : Call) → RoomForOne cap x
-    one (opens f v n t held lent) = tt
-    one (adds kind vs) = λ l. omega (arith, l, h)
-    one closes = tt
+pub room-for : (cap : ℕ) → most ≤ cap → (c : Call) → RoomFor cap c
+room-for cap h (opens f v n t held lent) = tt
+room-for cap h (adds kind vs) = λ l. omega (arith, l, h)
+room-for cap h closes = tt
 
 -- ---- the fates of the lines still to come
 abbrev pub Agrees : (ℕ → Bool) → ℕ → List Fate → Type 0

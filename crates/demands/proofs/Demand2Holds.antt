@@ -1,6 +1,6 @@
 -- DEMAND 2, proved: the statement is specs/Demand2.antt.
 -- Assumes nothing.
-use Prim.Native.Nat.{ℕ, suc, _≤_}
+use Prim.Native.Nat.{ℕ, suc}
 use mathlib.Core.Bool.{Bool, true, false}
 use mathlib.Core.List.{List, [], _∷_, _++_, map}
 use mathlib.Core.Path.{_≡_, refl, sym, ap, ap₂, _∙_, subst}
@@ -19,10 +19,12 @@ use Rattle.writer.proofs.Writing.{written}
 use Rattle.reader.specs.State.{capacity, fresh}
 use Rattle.reader.specs.Jump.{jumpFrom}
 use Rattle.reader.proofs.Accepts.{accepted-exactly}
+use Rattle.demands.specs.All.{All}
 use Rattle.demands.specs.Sending.{Call, Piece, Complete, Sent, Desk, start, pieceNow, completeNow, sentBy, sentFresh}
 use Rattle.demands.specs.Hearing.{Heard, is-begun, is-block, is-end, Reads}
-use Rattle.demands.specs.Damage.{Fate, kept, isKept, remain, Refusing, allOn, survivors}
-use Rattle.demands.specs.Demand2.{AreLines, NoneEmpty, AreBlocks, HaveBlocks, givenBack, Demand2}
+use Rattle.demands.specs.Damage.{Fate, kept, isKept, remain, IsRefused, allOn, survivors}
+use Rattle.demands.specs.Demand2.{IsLine, HasWord, IsBlock, HasBlocks, givenBack, Demand2}
+use Rattle.demands.proofs.AllLaws.{all-more, all-each}
 use Rattle.demands.proofs.Run.{now}
 use Rattle.demands.proofs.LineLends.{earOf}
 use Rattle.demands.proofs.LineEnds.{readable}
@@ -33,7 +35,7 @@ use Rattle.demands.proofs.DeskCloses.{closes-say}
 use Rattle.demands.proofs.DeskStart.{ValuesOf, standing, standing-ok, standing-some, start-ok}
 use Rattle.demands.proofs.DeskDoes.{Does, is-quiet, is-opened, is-finished, is-unfinished, is-closed}
 use Rattle.demands.proofs.DeskLaws.{along}
-use Rattle.demands.proofs.Ahead.{blocksHeard, Ahead, room-for-all, Agrees, Noticed, Tells, nothing-more, one-kept, one-removed, one-replaced}
+use Rattle.demands.proofs.Ahead.{blocksHeard, Ahead, RoomFor, room-for, Agrees, Noticed, Tells, nothing-more, one-kept, one-removed, one-replaced}
 use Rattle.demands.proofs.StartLine.{matches-idle}
 use Rattle.demands.proofs.Follow.{follow}
 
@@ -57,63 +59,55 @@ start-ahead system mode cap keeps told room long = record {
 
 -- a fresh reader lent what remains of a fresh writer's lines
 pub fresh-tells : (system mode : ℕ) (keeps : ℕ → Bool) (told : Bool) (cs : List Call) (fs : List Fate) (room : List ℕ) (hs : List Heard) → length room ≡ capacity → Agrees keeps 0 fs
-    → Refusing system mode fs → length fs ≡ length (sentFresh system mode cs) → Noticed (systemOf system .lines) told Unknown false fs (sentFresh system mode cs)
+    → All (IsRefused system mode) fs → length fs ≡ length (sentFresh system mode cs) → Noticed (systemOf system .lines) told Unknown false fs (sentFresh system mode cs)
     → Reads (fresh system mode) room (remain fs (sentFresh system mode cs)) hs
     → Tells (systemOf system .lines) keeps Unknown false fs (sentFresh system mode cs) hs
 fresh-tells system mode keeps told cs fs room hs long agrees refusing each noticed r =
     subst (Tells (systemOf system .lines) keeps Unknown false fs (sentFresh system mode cs))
     (sym (reads-are system mode (fresh system mode) room (remain fs (sentFresh system mode cs)) hs (fresh-tuned system mode room long) r))
-    (follow system mode capacity keeps told cs (start system mode) (start-ok system mode) (room-for-all capacity (omega arith) cs) fs false (earOf (fresh system mode) room) agrees refusing each noticed
+    (follow system mode capacity keeps told cs (start system mode) (start-ok system mode) (all-each (RoomFor capacity) (room-for capacity (omega arith)) cs) fs false (earOf (fresh system mode) room) agrees refusing each noticed
     (start-ahead system mode capacity keeps told room long))
 
 -- ---- each line is 01's, and each block's pieces are its words
 -- what holds of the desk before a call holds behind it, and of the lines that the call closes
 module _ (system mode : ℕ) where
   Blocks : Desk → Type 0
-  Blocks d = AreBlocks (d .now .settings .block) mode (d .now .blocks) × NoneEmpty (d .pieces)
-
-  one-piece : (ps : List Piece) (p : Piece) → NoneEmpty ps → 1 ≤ length (p .words) → NoneEmpty (ps ++ (p ∷ []))
-  one-piece [] p all one = (one, tt)
-  one-piece (x ∷ ps) p all one = (all .0, one-piece ps p (all .1) one)
-
-  one-block : (block : ℕ) (bs : List Complete) (b : Complete) → AreBlocks block mode bs → AreBlocks block mode (b ∷ []) → AreBlocks block mode (bs ++ (b ∷ []))
-  one-block block [] b all one = one
-  one-block block (x ∷ bs) b all one = (all .0, one-block block bs b (all .1) one)
+  Blocks d = HasBlocks mode (d .now) × All HasWord (d .pieces)
 
   lines-by : (d : Desk) (c : Call) (d′ : Desk) (ts : List Sent) → Does true d c d′ ts → DeskOk system mode d → DeskOk system mode d′ → (cs : List Call) (ss : List Sent)
-      → AreLines system ss → AreLines system (ts ++ ss)
+      → All (IsLine system) ss → All (IsLine system) (ts ++ ss)
   lines-by d c _ _ (is-quiet w ws q) dk k cs ss more = more
   lines-by d _ _ _ (is-opened f v n t held lent e) dk k cs ss more = more
   lines-by d _ _ _ (is-finished kind vs clear e) dk k cs ss more = more
   lines-by d _ _ _ (is-unfinished kind vs clear e) dk k cs ss more = more
   lines-by d _ _ _ (is-closed e) dk k cs ss more = (closes-say system mode d dk e .is, more)
 
-  pub lines-hold : (cs : List Call) (d : Desk) → DeskOk system mode d → AreLines system (sentBy d cs)
-  lines-hold = along system mode true (λ (d : Desk) (cs : List Call) (ss : List Sent). AreLines system ss) (λ d. tt) lines-by
+  pub lines-hold : (cs : List Call) (d : Desk) → DeskOk system mode d → All (IsLine system) (sentBy d cs)
+  lines-hold = along system mode true (λ (d : Desk) (cs : List Call) (ss : List Sent). All (IsLine system) ss) (λ d. tt) lines-by
 
   blocks-by : (d : Desk) (c : Call) (d′ : Desk) (ts : List Sent) → Does true d c d′ ts → DeskOk system mode d → DeskOk system mode d′ → (cs : List Call) (ss : List Sent)
-      → (Blocks d′ → HaveBlocks mode ss) → Blocks d → HaveBlocks mode (ts ++ ss)
+      → (Blocks d′ → All (HasBlocks mode) ss) → Blocks d → All (HasBlocks mode) (ts ++ ss)
   unfolding Blocks
   blocks-by d c _ _ (is-quiet w ws q) dk k cs ss more h = more h
   blocks-by d _ _ _ (is-opened f v n t held lent e) dk k cs ss more h = more (tt, h .1)
   blocks-by d _ _ _ (is-finished kind vs clear e) dk k cs ss more h =
       let a = adds-say system mode d kind vs dk clear in
-      more (one-block (d .now .settings .block) (d .now .blocks) (completeNow d kind vs) (h .0) ((a .whole e, one-piece (d .pieces) (pieceNow d kind vs) (h .1) (a .some)), tt), tt)
+      more (all-more (IsBlock (d .now .settings .block) mode) (d .now .blocks) (completeNow d kind vs) (h .0) (a .whole e, all-more HasWord (d .pieces) (pieceNow d kind vs) (h .1) (a .some)), tt)
   blocks-by d _ _ _ (is-unfinished kind vs clear e) dk k cs ss more h =
-      more (h .0, one-piece (d .pieces) (pieceNow d kind vs) (h .1) (adds-say system mode d kind vs dk clear .some))
+      more (h .0, all-more HasWord (d .pieces) (pieceNow d kind vs) (h .1) (adds-say system mode d kind vs dk clear .some))
   blocks-by d _ _ _ (is-closed e) dk k cs ss more h = (h .0, more h)
 
-  pub blocks-hold : (cs : List Call) (d : Desk) → DeskOk system mode d → AreBlocks (d .now .settings .block) mode (d .now .blocks) × NoneEmpty (d .pieces)
-      → HaveBlocks mode (sentBy d cs)
+  pub blocks-hold : (cs : List Call) (d : Desk) → DeskOk system mode d → HasBlocks mode (d .now) × All HasWord (d .pieces)
+      → All (HasBlocks mode) (sentBy d cs)
   unfolding Blocks
-  blocks-hold = along system mode true (λ (d : Desk) (cs : List Call) (ss : List Sent). Blocks d → HaveBlocks mode ss) (λ d h. tt) blocks-by
+  blocks-hold = along system mode true (λ (d : Desk) (cs : List Call) (ss : List Sent). Blocks d → All (HasBlocks mode) ss) (λ d h. tt) blocks-by
 
 -- a writer in any possible state with no line open: its lines are 01's, and the pieces of its blocks, joined, are their words, those laid before among them
 module _ (w : Writer) (us : List ℕ) (possible : impossible w ≡ false) (shut : w .place ≡ Shut) (values : ValuesOf (w .mode) (w .rest) us) (cs : List Call) where
-  pub any-lines : AreLines (w .system) (sentBy (standing w us) cs)
+  pub any-lines : All (IsLine (w .system)) (sentBy (standing w us) cs)
   any-lines = lines-hold (w .system) (w .mode) cs (standing w us) (standing-ok w us possible values shut)
 
-  pub any-blocks : HaveBlocks (w .mode) (sentBy (standing w us) cs)
+  pub any-blocks : All (HasBlocks (w .mode)) (sentBy (standing w us) cs)
   any-blocks = blocks-hold (w .system) (w .mode) cs (standing w us) (standing-ok w us possible values shut) (tt, standing-some w us possible values)
 
 -- ---- all lines kept
@@ -136,9 +130,9 @@ kept-agrees : (i : ℕ) (ss : List Sent) → Agrees each-kept i (all-kept ss)
 kept-agrees i [] = tt
 kept-agrees i (s ∷ ss) = (refl, kept-agrees (suc i) ss)
 
-kept-refusing : (system mode : ℕ) (ss : List Sent) → Refusing system mode (all-kept ss)
+kept-refusing : (system mode : ℕ) (ss : List Sent) → All (IsRefused system mode) (all-kept ss)
 kept-refusing system mode [] = tt
-kept-refusing system mode (s ∷ ss) = kept-refusing system mode ss
+kept-refusing system mode (s ∷ ss) = (tt, kept-refusing system mode ss)
 
 kept-noticed : (lines : ℕ) (before : Last) (ss : List Sent) → Noticed lines false before false (all-kept ss) ss
 kept-noticed lines before [] = tt

@@ -20,10 +20,11 @@ use Rattle.writer.specs.Course.{asLaid}
 use Rattle.writer.proofs.Keeps.{close-clear, close-leaves}
 use Rattle.writer.proofs.Refusals.{can-add, can-close}
 use Rattle.reader.specs.State.{capacity, fresh}
+use Rattle.demands.specs.All.{All}
 use Rattle.demands.specs.Sending.{Call, Block, Complete, Sent, Desk, start, valuesNow, pieceNow, completeNow, sentBy, sentFresh, blocksOf}
 use Rattle.demands.specs.Hearing.{Heard, is-end, Reads, handedOut}
 use Rattle.demands.specs.Damage.{Fate, remain, keptAt, survivors}
-use Rattle.demands.specs.Demand3.{Transmission, From3, Demand3}
+use Rattle.demands.specs.Demand3.{Transmission, IsFrom3, Demand3}
 use Rattle.demands.proofs.LineEnds.{readable, line-within}
 use Rattle.demands.proofs.DeskOk.{DeskOk}
 use Rattle.demands.proofs.DeskDoes.{Does, is-quiet, is-opened, is-finished, is-unfinished, is-closed}
@@ -93,14 +94,14 @@ handed-by lines keeps i before gone _ _ _ (one-replaced {fs = fs} {s = s} {ss = 
     ∙ sym (survivors-append keeps (s .blocks) (blocksOf ss) ∙ ap (λ (l : List Block). l ++ survivors keeps (blocksOf ss)) (lost .0 (agrees .0)))
 
 -- ---- neither 1 nor 2
-from3-blocks : (bs : List Block) (hs : List Heard) → From3 hs → From3 (blocksHeard bs ++ hs)
+from3-blocks : (bs : List Block) (hs : List Heard) → All IsFrom3 hs → All IsFrom3 (blocksHeard bs ++ hs)
 from3-blocks [] hs h = h
-from3-blocks (b ∷ bs) hs h = from3-blocks bs hs h
+from3-blocks (b ∷ bs) hs h = (tt, from3-blocks bs hs h)
 
-served-by : (lines : ℕ) (keeps : ℕ → Bool) (before : Last) (gone : Bool) (fs : List Fate) (ss : List Sent) (hs : List Heard) → Tells lines keeps before gone fs ss hs → From3 hs
+served-by : (lines : ℕ) (keeps : ℕ → Bool) (before : Last) (gone : Bool) (fs : List Fate) (ss : List Sent) (hs : List Heard) → Tells lines keeps before gone fs ss hs → All IsFrom3 hs
 served-by lines keeps before gone fs _ _ nothing-more = tt
 served-by lines keeps before gone _ _ _ (one-kept {fs = fs} {s = s} {ss = ss} {hs = hs} dropped none-dropped more) =
-    from3-blocks (survivors keeps (s .blocks)) (is-end ∷ hs) (served-by lines keeps (Number (s .number)) false fs ss hs more)
+    (tt, from3-blocks (survivors keeps (s .blocks)) (is-end ∷ hs) (tt, served-by lines keeps (Number (s .number)) false fs ss hs more))
 served-by lines keeps before gone _ _ _ (one-removed {fs = fs} {ss = ss} {hs = hs} more) = served-by lines keeps before true fs ss hs more
 served-by lines keeps before gone _ _ _ (one-replaced {fs = fs} {ss = ss} {hs = hs} k dropped least more) = (least, served-by lines keeps Unknown false fs ss hs more)
 
@@ -124,7 +125,7 @@ module _ (system mode : ℕ) (cs : List Call) (fs : List Fate) (x : Transmission
       handed-by (systemOf system .lines) (keptAt fs) 0 Unknown false fs (sentFresh system mode cs) hs tells fated
       (all-lines-lost system mode (keptAt fs) cs (start system mode) (start-ok system mode) (shut-start system mode (keptAt fs)))
 
-  all-served : From3 hs
+  all-served : All IsFrom3 hs
   all-served = served-by (systemOf system .lines) (keptAt fs) Unknown false fs (sentFresh system mode cs) hs tells
 
 as-lent : (d : Desk) (vs : List ℕ) → (d .writer .rest ≡ Whole) ⊎ (d .values ≡ vs) → valuesNow d vs ≡ vs

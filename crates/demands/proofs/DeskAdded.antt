@@ -23,14 +23,10 @@ use Rattle.writer.proofs.Stays.{add-possible}
 use Rattle.writer.proofs.Pieces.{rest-left, varies}
 use Rattle.writer.proofs.Writing.{Open, laid-on}
 use Rattle.demands.specs.Sending.{Piece, Complete, Desk, with, valuesNow, pieceNow, addedBy}
-use Rattle.demands.proofs.DeskOk.{AllLong, OpenNow, Owing, DeskOk}
+use Rattle.demands.proofs.AllLaws.{all-more}
+use Rattle.demands.proofs.DeskOk.{OpenNow, Owing, DeskOk}
 use Rattle.demands.proofs.DeskCalls.{joined-append}
 use Rattle.demands.proofs.DeskAdds.{now-open, lent-now, all-now, words-now, goes-now, adds-say}
-
--- ---- a piece more, as long as the others
-long-more : (n : ℕ) (ps : List (List ℕ)) (p : List ℕ) → AllLong n ps → length p ≡ n → AllLong n (ps ++ (p ∷ []))
-long-more n [] p h e = (e, tt)
-long-more n (x ∷ ps) p h e = (h .0, long-more n ps p (h .1) e)
 
 fixed-long : (mode kind : ℕ) (vs : List ℕ) → length (fixedWords mode kind vs) ≡ length vs + 1
 unfolding fixedWords
@@ -88,7 +84,7 @@ module _ (system mode : ℕ) (d : Desk) (kind : ℕ) (vs : List ℕ) (ok : DeskO
         one = o .one;
         most-lines = o .most-lines;
         last-is = ap (λ (y : Added). y .state .last) leaves ∙ o .last-is;
-        placed = λ v. long-more (sizeOf (d .now .settings .block)) (d .now .pieces) (pieceOf (d .writer) (d .now .words) kind vs) (o .placed v) (piece-long v);
+        placed = λ v. all-more (λ (l : List ℕ). length l ≡ sizeOf (d .now .settings .block)) (d .now .pieces) (pieceOf (d .writer) (d .now .words) kind vs) (o .placed v) (piece-long v);
       }
 
   -- finished: no block is left

@@ -2,7 +2,7 @@
 -- Assumes nothing.
 use Prim.Native.Nat.{ℕ, _+_, _≤_}
 use mathlib.Core.Bool.{true, false}
-use mathlib.Core.List.{List, [], _∷_}
+use mathlib.Core.List.{List, []}
 use mathlib.Core.Path.{_≡_}
 use lib.ListN.{length, take}
 use Rattle.line.specs.Systems.{systemOf, isSystem}
@@ -18,12 +18,12 @@ use Rattle.writer.specs.Adding.{valued}
 use Rattle.writer.specs.Block.{blockWords}
 use Rattle.writer.specs.Course.{joined}
 use Rattle.writer.proofs.Writing.{Open}
+use Rattle.demands.specs.All.{All}
 use Rattle.demands.specs.Sending.{Desk, joinedPieces}
 
 -- each list has so many words
 abbrev pub AllLong : ℕ → List (List ℕ) → Type 0
-AllLong n [] = Unit {0}
-AllLong n (x ∷ xs) = (length x ≡ n) × AllLong n xs
+AllLong n xs = All (λ (x : List ℕ). length x ≡ n) xs
 
 -- an open line: its words, and what it was opened with
 pub record OpenNow (system mode : ℕ) (d : Desk) : Type 0 where

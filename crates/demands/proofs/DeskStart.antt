@@ -20,8 +20,9 @@ use Rattle.writer.specs.Block.{blockWords}
 use Rattle.writer.specs.Adding.{valued}
 use Rattle.writer.proofs.Refusals.{begun}
 use Rattle.writer.proofs.Stays.{fresh-possible}
+use Rattle.demands.specs.All.{All}
 use Rattle.demands.specs.Sending.{Piece, Desk, start, joinedPieces}
-use Rattle.demands.specs.Demand2.{NoneEmpty}
+use Rattle.demands.specs.Demand2.{HasWord}
 use Rattle.demands.proofs.BlockRun.{block-long}
 use Rattle.demands.proofs.DeskOk.{Owing, DeskOk}
 use Rattle.demands.proofs.DeskCloses.{varied-by}
@@ -72,10 +73,10 @@ module _ (w : Writer) (us : List ℕ) (possible : impossible w ≡ false) (value
         owing = owing-part;
       }
 
-  pub standing-some : NoneEmpty (laidBefore (w .mode) (w .rest) us)
+  pub standing-some : All HasWord (laidBefore (w .mode) (w .rest) us)
   standing-some = by (w .rest) refl
     where
-      by : (r : Rest) → w .rest ≡ r → NoneEmpty (laidBefore (w .mode) r us)
+      by : (r : Rest) → w .rest ≡ r → All HasWord (laidBefore (w .mode) r us)
       by Whole e = tt
       by (Part kind n j) e =
           let o = owing-part kind n j e in

@@ -22,9 +22,10 @@ use Rattle.writer.proofs.Keeps.{close-clear}
 use Rattle.writer.proofs.Refusals.{can-close}
 use Rattle.reader.specs.Phases.{isBusy}
 use Rattle.reader.specs.Jump.{jumpFrom}
+use Rattle.demands.specs.All.{All}
 use Rattle.demands.specs.Sending.{Call, closes, Sent, Desk, with, closedBy, sentBy}
 use Rattle.demands.specs.Hearing.{Heard, is-begun, is-end}
-use Rattle.demands.specs.Damage.{Fate, kept, removed, replaced, remain, Refusing, allOn, survivors}
+use Rattle.demands.specs.Damage.{Fate, kept, removed, replaced, remain, IsRefused, allOn, survivors}
 use Rattle.demands.proofs.Run.{Now}
 use Rattle.demands.proofs.LineRun.{blockPart}
 use Rattle.demands.proofs.Ear.{Ear, Input, own, refusal, loses, startNow, earAfter, heardAlong, inputOf, inputsOf}
@@ -58,7 +59,7 @@ module _ (system mode cap : ℕ) (keeps : ℕ → Bool) (told : Bool) where
   -- the ear is where the desk is; from there on it hears what was to be told
   abbrev Goal : Desk → List Call → List Sent → Type 0
   Goal d cs ss =
-      RoomFor cap cs → (fs : List Fate) (gone : Bool) (ear : Ear) → Agrees keeps (d .closed) fs → Refusing system mode fs → length fs ≡ length ss
+      All (RoomFor cap) cs → (fs : List Fate) (gone : Bool) (ear : Ear) → Agrees keeps (d .closed) fs → All (IsRefused system mode) fs → length fs ≡ length ss
       → Noticed (systemOf system .lines) told (ear .last) gone fs ss → Ahead system mode cap keeps told gone d ear
       → Tells (systemOf system .lines) keeps (ear .last) gone fs ss (heardAlong system mode ear (inputsOf system mode (remain fs ss)))
 
@@ -163,12 +164,12 @@ module _ (system mode cap : ℕ) (keeps : ℕ → Bool) (told : Bool) where
         none-not-some h = omega arith
     done-goal cs ss ih r (kept ∷ fs) gone ear agrees refusing long noticed a =
         kept-tells gone ear a (agrees .0) (noticed .0) fs ss
-        (ih (r .1) fs false _ (agrees .1) refusing (omega (arith, long)) (noticed .1) (kept-ahead gone ear a (agrees .0) (noticed .0)))
+        (ih (r .1) fs false _ (agrees .1) (refusing .1) (omega (arith, long)) (noticed .1) (kept-ahead gone ear a (agrees .0) (noticed .0)))
     done-goal cs ss ih r (removed ∷ fs) gone ear agrees refusing long noticed a =
-        one-removed (ih (r .1) fs true ear (agrees .1) refusing (omega (arith, long)) noticed (removed-ahead gone ear a (agrees .0)))
+        one-removed (ih (r .1) fs true ear (agrees .1) (refusing .1) (omega (arith, long)) noticed (removed-ahead gone ear a (agrees .0)))
     done-goal cs ss ih r (replaced ws ∷ fs) gone ear agrees refusing long noticed a =
-        replaced-tells gone ear a (agrees .0) ws (refusing .0) (refusing .1 .0) fs ss
-        (ih (r .1) fs false _ (agrees .1) (refusing .1 .1) (omega (arith, long)) noticed (replaced-ahead gone ear a (agrees .0) ws (refusing .0) (refusing .1 .0)))
+        replaced-tells gone ear a (agrees .0) ws (refusing .0 .0) (refusing .0 .1) fs ss
+        (ih (r .1) fs false _ (agrees .1) (refusing .1) (omega (arith, long)) noticed (replaced-ahead gone ear a (agrees .0) ws (refusing .0 .0) (refusing .0 .1)))
 
   -- ---- any call
   none-goal : (d : Desk) → Goal d [] []

@@ -1,3 +1,4 @@
+pub mod AllLaws
 pub mod Run
 pub mod RunLaws
 pub mod BlockRun
