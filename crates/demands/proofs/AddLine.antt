@@ -20,7 +20,7 @@ use Rattle.writer.specs.Adding.{addFault, room, adding}
 use Rattle.writer.specs.Block.{fixedWords}
 use Rattle.writer.specs.Course.{joined, pieceOf}
 use Rattle.writer.proofs.Keeps.{add-leaves}
-use Rattle.demands.specs.Sending.{Block, Piece, Complete, Desk, with, valuesNow, pieceNow, completeNow, addedBy}
+use Rattle.demands.specs.Sending.{Block, Piece, Complete, Desk, valuesNow, pieceNow, completeNow, addedBy}
 use Rattle.demands.specs.Hearing.{Heard, is-block}
 use Rattle.demands.specs.Damage.{allOn, survivors}
 use Rattle.demands.proofs.Run.{Now, now, runTo, runOut, placeOut, placesTo}
@@ -30,7 +30,7 @@ use Rattle.demands.proofs.PlaceRun.{place-given, place-room, places-out
 use Rattle.demands.proofs.Ear.{Ear, startNow}
 use Rattle.demands.proofs.DeskOk.{DeskOk}
 use Rattle.demands.proofs.Outcomes.{Varies, Fills, Adds}
-use Rattle.demands.proofs.DeskCalls.{joined-append}
+use Rattle.demands.proofs.DeskCalls.{joined-append, laidDesk}
 use Rattle.demands.proofs.DeskAdds.{adds-say}
 use Rattle.demands.proofs.DeskAdded.{rest-whole}
 use Rattle.demands.proofs.Ahead.{blocksHeard, Matches, ByWords, ByPlaces, Inside, Ahead}
@@ -160,15 +160,10 @@ module _ (system mode cap : ℕ) (keeps : ℕ → Bool) (told gone : Bool) (d : 
     }
 
   -- ---- the whole
-  abbrev x : Added
-  x = adding (d .writer) (d .now .words) kind vs
-
-  -- a piece more on the line, with these blocks finished on it, and these values and pieces of an unfinished one
   laid-ahead : (bs : List Complete) (us : List ℕ) (ps : List Piece)
-      → let d′ : Desk = record { writer = adding (d .writer) (d .now .words) kind vs .state; now = with (d .now) (d .now .pieces ++ (pieceNow d kind vs .words ∷ [])) bs (adding (d .writer) (d .now .words) kind vs .line); closed = d .closed; values = us; pieces = ps } in
-      (keeps (d .closed) ≡ true → (q : Now) → Inside mode cap keeps d q → Inside mode cap keeps d′ q)
+      → (keeps (d .closed) ≡ true → (q : Now) → Inside mode cap keeps d q → Inside mode cap keeps (laidDesk d kind vs bs us ps) q)
       → (keeps (d .closed) ≡ false → isPart (adding (d .writer) (d .now .words) kind vs .state .rest) ≡ true → allOn keeps ps ≡ false)
-      → Ahead system mode cap keeps told gone d′ ear
+      → Ahead system mode cap keeps told gone (laidDesk d kind vs bs us ps) ear
   laid-ahead bs us ps on lost = record {
     listens = a .listens;
     between = λ z. absurd (still-open d kind vs clear z);

@@ -22,7 +22,7 @@ use Rattle.reader.proofs.Accepts.{accepted-exactly}
 use Rattle.demands.specs.All.{All}
 use Rattle.demands.specs.Sending.{Call, Piece, Complete, Sent, Desk, start, pieceNow, completeNow, sentBy, sentFresh}
 use Rattle.demands.specs.Hearing.{Heard, is-begun, is-block, is-end, Reads}
-use Rattle.demands.specs.Damage.{Fate, kept, isKept, remain, IsRefused, allOn, survivors}
+use Rattle.demands.specs.Damage.{Fate, kept, isKept, remain, RefusedIfReplaced, allOn, survivors}
 use Rattle.demands.specs.Demand2.{IsLine, HasWord, IsBlock, HasBlocks, givenBack, Demand2}
 use Rattle.demands.proofs.AllLaws.{all-more, all-each}
 use Rattle.demands.proofs.Run.{now}
@@ -59,7 +59,7 @@ start-ahead system mode cap keeps told room long = record {
 
 -- a fresh reader lent what remains of a fresh writer's lines
 pub fresh-tells : (system mode : ℕ) (keeps : ℕ → Bool) (told : Bool) (cs : List Call) (fs : List Fate) (room : List ℕ) (hs : List Heard) → length room ≡ capacity → Agrees keeps 0 fs
-    → All (IsRefused system mode) fs → length fs ≡ length (sentFresh system mode cs) → Noticed (systemOf system .lines) told Unknown false fs (sentFresh system mode cs)
+    → All (RefusedIfReplaced system mode) fs → length fs ≡ length (sentFresh system mode cs) → Noticed (systemOf system .lines) told Unknown false fs (sentFresh system mode cs)
     → Reads (fresh system mode) room (remain fs (sentFresh system mode cs)) hs
     → Tells (systemOf system .lines) keeps Unknown false fs (sentFresh system mode cs) hs
 fresh-tells system mode keeps told cs fs room hs long agrees refusing each noticed r =
@@ -130,7 +130,7 @@ kept-agrees : (i : ℕ) (ss : List Sent) → Agrees each-kept i (all-kept ss)
 kept-agrees i [] = tt
 kept-agrees i (s ∷ ss) = (refl, kept-agrees (suc i) ss)
 
-kept-refusing : (system mode : ℕ) (ss : List Sent) → All (IsRefused system mode) (all-kept ss)
+kept-refusing : (system mode : ℕ) (ss : List Sent) → All (RefusedIfReplaced system mode) (all-kept ss)
 kept-refusing system mode [] = tt
 kept-refusing system mode (s ∷ ss) = (tt, kept-refusing system mode ss)
 

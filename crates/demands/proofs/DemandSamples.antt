@@ -35,7 +35,7 @@ use Rattle.reader.specs.Jump.{folded}
 use Rattle.demands.specs.All.{All}
 use Rattle.demands.specs.Sending.{Call, opens, adds, closes, Block, Piece, Complete, Sent, Desk, start, after, sends, sentBy, sentFresh, blocksOf}
 use Rattle.demands.specs.Hearing.{Heard, is-begun, is-block, is-end, Reads, handedOut}
-use Rattle.demands.specs.Damage.{Fate, kept, removed, replaced, remain, IsRefused, longestRun, keptAt, survivors}
+use Rattle.demands.specs.Damage.{Fate, kept, removed, replaced, remain, RefusedIfReplaced, longestRun, keptAt, survivors}
 use Rattle.demands.specs.Demand2.{givenBack}
 use Rattle.demands.specs.Demand3.{Consecutive, Transmission}
 use Rattle.demands.proofs.Demand2Holds.{demand-2}
@@ -199,7 +199,7 @@ pub refused-3 : lineFault 0 9 (replicate 1716 0) ≡ 3
 unfolding pick isSystem isMode timingWords timed headFaults faults fitsLength lineFault
 refused-3 = refl
 
-refused-is : All (IsRefused 0 9) fates
+refused-is : All (RefusedIfReplaced 0 9) fates
 unfolding fates blank
 refused-is = (tt, (tt, (tt, ((length-replicate {A = ℕ} 1716 0, λ e. let n : _≡_ {A = ℕ} 3 0 = sym refused-3 ∙ e in omega (arith, n)), (tt, tt)))))
 

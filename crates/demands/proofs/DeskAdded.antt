@@ -22,10 +22,10 @@ use Rattle.writer.proofs.Keeps.{add-leaves}
 use Rattle.writer.proofs.Stays.{add-possible}
 use Rattle.writer.proofs.Pieces.{rest-left, varies}
 use Rattle.writer.proofs.Writing.{Open, laid-on}
-use Rattle.demands.specs.Sending.{Piece, Complete, Desk, with, valuesNow, pieceNow, addedBy}
+use Rattle.demands.specs.Sending.{Piece, Complete, Desk, valuesNow, pieceNow, addedBy}
 use Rattle.demands.proofs.AllLaws.{all-more}
 use Rattle.demands.proofs.DeskOk.{OpenNow, Owing, DeskOk}
-use Rattle.demands.proofs.DeskCalls.{joined-append}
+use Rattle.demands.proofs.DeskCalls.{joined-append, laidDesk}
 use Rattle.demands.proofs.DeskAdds.{now-open, lent-now, all-now, words-now, goes-now, adds-say}
 
 fixed-long : (mode kind : ℕ) (vs : List ℕ) → length (fixedWords mode kind vs) ≡ length vs + 1
@@ -61,7 +61,7 @@ module _ (system mode : ℕ) (d : Desk) (kind : ℕ) (vs : List ℕ) (ok : DeskO
       let more : joined (d .now .pieces ++ (p ∷ [])) ≡ joined (d .now .pieces) ++ p =
       joined-append (d .now .pieces) (p ∷ []) ∙ ap (λ (l : List ℕ). joined (d .now .pieces) ++ l) (append-nil p) in
       subst (λ (l : List ℕ). Open system mode (d .now .f) (d .now .v) (d .now .number) (d .now .settings) l (x .state) (x .line)) (sym more)
-      (laid-on system mode (d .now .f) (d .now .v) (d .now .number) (d .now .settings) (o .held) (o .known) (o .row) (o .clean) (joined (d .now .pieces)) (d .writer)
+      (laid-on system mode (d .now .f) (d .now .v) (d .now .number) (d .now .settings) (o .openable .held) (o .openable .known) (o .openable .row) (o .openable .clean) (joined (d .now .pieces)) (d .writer)
       (d .now .words) (o .is-open) kind vs clear)
 
   piece-long : isVariable (d .now .settings .block) ≡ false → length (pieceOf (d .writer) (d .now .words) kind vs) ≡ sizeOf (d .now .settings .block)
@@ -69,22 +69,28 @@ module _ (system mode : ℕ) (d : Desk) (kind : ℕ) (vs : List ℕ) (ok : DeskO
       let fills = adds-say system mode d kind vs ok clear .fills v in
       ap length (fills .piece) ∙ fixed-long mode kind vs ∙ fills .long
 
-  open-after : (bs : List Complete) (us : List ℕ) (ps : List Piece)
-      → OpenNow system mode
-      (record { writer = x .state; now = with (d .now) (d .now .pieces ++ (pieceNow d kind vs .words ∷ [])) bs (x .line); closed = d .closed; values = us; pieces = ps })
+  open-after : (bs : List Complete) (us : List ℕ) (ps : List Piece) → OpenNow system mode (laidDesk d kind vs bs us ps)
   open-after bs us ps =
       let o = now-open system mode d kind vs ok clear in
       record {
         is-open = line-now;
-        held = o .held;
-        known = o .known;
-        moded = o .moded;
-        row = o .row;
-        clean = o .clean;
-        one = o .one;
-        most-lines = o .most-lines;
+        openable = o .openable;
         last-is = ap (λ (y : Added). y .state .last) leaves ∙ o .last-is;
-        placed = λ v. all-more (λ (l : List ℕ). length l ≡ sizeOf (d .now .settings .block)) (d .now .pieces) (pieceOf (d .writer) (d .now .words) kind vs) (o .placed v) (piece-long v);
+        placed = λ v.
+            all-more (λ (l : List ℕ). length l ≡ sizeOf (d .now .settings .block)) (d .now .pieces) (pieceOf (d .writer) (d .now .words) kind vs) (o .placed v) (piece-long v);
+      }
+
+  laid-ok : (bs : List Complete) (us : List ℕ) (ps : List Piece) → (adding (d .writer) (d .now .words) kind vs .state .rest ≡ Whole → ps ≡ [])
+      → ((c n j : ℕ) → adding (d .writer) (d .now .words) kind vs .state .rest ≡ Part c n j → Owing mode (laidDesk d kind vs bs us ps) c n j)
+      → DeskOk system mode (laidDesk d kind vs bs us ps)
+  laid-ok bs us ps none some =
+      record {
+        of-system = ap (λ (y : Added). y .state .system) leaves ∙ ok .of-system;
+        of-mode = ap (λ (y : Added). y .state .mode) leaves ∙ ok .of-mode;
+        possible = add-possible (d .writer) (d .now .words) kind vs (ok .possible);
+        opened = λ at. open-after bs us ps;
+        none-owing = none;
+        owing = some;
       }
 
   -- finished: no block is left
@@ -93,15 +99,7 @@ module _ (system mode : ℕ) (d : Desk) (kind : ℕ) (vs : List ℕ) (ok : DeskO
 
   pub finished-ok : adding (d .writer) (d .now .words) kind vs .answer ≡ Finished
       → DeskOk system mode (addedBy Finished (adding (d .writer) (d .now .words) kind vs) d kind vs)
-  finished-ok e =
-      record {
-        of-system = ap (λ (y : Added). y .state .system) leaves ∙ ok .of-system;
-        of-mode = ap (λ (y : Added). y .state .mode) leaves ∙ ok .of-mode;
-        possible = add-possible (d .writer) (d .now .words) kind vs (ok .possible);
-        opened = λ at. open-after _ [] [];
-        none-owing = λ r. refl;
-        owing = λ c n j r. absurd (true-false (sym (ap isPart r) ∙ ap isPart (rest-whole e)));
-      }
+  finished-ok e = laid-ok _ [] [] (λ r. refl) (λ c n j r. absurd (true-false (sym (ap isPart r) ∙ ap isPart (rest-whole e))))
 
   -- unfinished: what is laid now is the unfinished block
   owing-now : adding (d .writer) (d .now .words) kind vs .answer ≡ Unfinished
@@ -132,11 +130,5 @@ module _ (system mode : ℕ) (d : Desk) (kind : ℕ) (vs : List ℕ) (ok : DeskO
   pub unfinished-ok : adding (d .writer) (d .now .words) kind vs .answer ≡ Unfinished
       → DeskOk system mode (addedBy Unfinished (adding (d .writer) (d .now .words) kind vs) d kind vs)
   unfinished-ok e =
-      record {
-        of-system = ap (λ (y : Added). y .state .system) leaves ∙ ok .of-system;
-        of-mode = ap (λ (y : Added). y .state .mode) leaves ∙ ok .of-mode;
-        possible = add-possible (d .writer) (d .now .words) kind vs (ok .possible);
-        opened = λ at. open-after (d .now .blocks) (valuesNow d vs) (d .pieces ++ (pieceNow d kind vs ∷ []));
-        none-owing = λ r. absurd (true-false (sym (ap isPart (rest-left (d .writer) (d .now .words) kind vs clear e)) ∙ ap isPart r));
-        owing = owing-as e;
-      }
+      laid-ok (d .now .blocks) (valuesNow d vs) (d .pieces ++ (pieceNow d kind vs ∷ []))
+      (λ r. absurd (true-false (sym (ap isPart (rest-left (d .writer) (d .now .words) kind vs clear e)) ∙ ap isPart r))) (owing-as e)

@@ -21,7 +21,7 @@ use Rattle.writer.specs.Adding.{addFault, adding}
 use Rattle.writer.specs.Closing.{closing}
 use Rattle.writer.specs.Course.{joined}
 use Rattle.writer.proofs.Keeps.{open-keeps, close-keeps, add-stays, add-leaves}
-use Rattle.demands.specs.Sending.{opens, adds, closes, Piece, Sent, Desk, openedBy, with, addedBy, closedBy, after, joinedPieces}
+use Rattle.demands.specs.Sending.{opens, adds, closes, Piece, Complete, Sent, Desk, openedBy, with, pieceNow, addedBy, closedBy, after, joinedPieces}
 use Rattle.demands.proofs.DeskOk.{Owing, DeskOk}
 
 -- ---- joined
@@ -51,6 +51,12 @@ module _ (d : Desk) (f v : Bool) (n : ℕ) (t : Settings) (held : Held t) (lent 
 -- the desk with another state, and other words of the line opened last
 abbrev pub moves : Desk → Writer → List ℕ → Desk
 moves d w ws = record { writer = w; now = with (d .now) (d .now .pieces) (d .now .blocks) ws; closed = d .closed; values = d .values; pieces = d .pieces }
+
+-- the desk behind an accepted addition: a piece more on the line, these blocks finished on it, and of an unfinished block these values and pieces
+abbrev pub laidDesk : Desk → ℕ → List ℕ → List Complete → List ℕ → List Piece → Desk
+laidDesk d kind vs bs us ps =
+    let x = adding (d .writer) (d .now .words) kind vs in
+    record { writer = x .state; now = with (d .now) (d .now .pieces ++ (pieceNow d kind vs .words ∷ [])) bs (x .line); closed = d .closed; values = us; pieces = ps }
 
 laid-not : (k : ℕ) (b : Bool) → pick b Finished Unfinished ≡ Not k → ⊥
 unfolding pick

@@ -123,16 +123,17 @@ module _ (system mode : ℕ) (d : Desk) (ok : DeskOk system mode d) (done : clos
 pub closes-say : (system mode : ℕ) (d : Desk) → DeskOk system mode d → closing (d .writer) (d .now .words) .answer ≡ Done → Closes system mode d
 closes-say system mode d ok done =
     let o = now-open system mode d ok done in
+    let a = o .openable in
     let t = d .now .settings in
     let e = leaves system mode d ok done in
     let full = fills system mode d ok done in
     record {
       is =
-          closed-line system mode (d .now .f) (d .now .v) (d .now .number) t (o .held) (o .known) (o .moded) (o .row) (o .clean) (o .one)
-          (o .most-lines) (d .now .pieces) (d .writer) (d .now .words) (o .is-open) done;
+          closed-line system mode (d .now .f) (d .now .v) (d .now .number) t (a .held) (a .known) (a .moded) (a .row) (a .clean) (a .one)
+          (a .most-lines) (d .now .pieces) (d .writer) (d .now .words) (o .is-open) done;
       accepts =
-          closed-accepted system mode (d .now .f) (d .now .v) (d .now .number) t (o .held) (o .known) (o .moded) (o .row) (o .clean) (o .one)
-          (o .most-lines) (d .now .pieces) (d .writer) (d .now .words) (o .is-open) done;
+          closed-accepted system mode (d .now .f) (d .now .v) (d .now .number) t (a .held) (a .known) (a .moded) (a .row) (a .clean) (a .one)
+          (a .most-lines) (d .now .pieces) (d .writer) (d .now .words) (o .is-open) done;
       last-is = o .last-is;
       settings-are = o .is-open .of-settings;
       state-last = ap (λ (x : Left). x .state .last) e;
@@ -142,7 +143,7 @@ closes-say system mode d ok done =
       full = full;
       within = few system mode d ok done;
       begun = λ part p at.
-          omega (arith, full part, place-is system mode d ok done, ap placeOf at, area-some system (t .flag) (o .known));
+          omega (arith, full part, place-is system mode d ok done, ap placeOf at, area-some system (t .flag) (a .known));
     }
 
 pub closed-ok : (system mode : ℕ) (d : Desk) → DeskOk system mode d → closing (d .writer) (d .now .words) .answer ≡ Done

@@ -94,13 +94,7 @@ quiet-ok system mode told d w ws q ok =
           let o = ok .opened was in
           record {
             is-open = q .still system mode (o .is-open);
-            held = o .held;
-            known = o .known;
-            moded = o .moded;
-            row = o .row;
-            clean = o .clean;
-            one = o .one;
-            most-lines = o .most-lines;
+            openable = o .openable;
             last-is = q .open-last was ∙ o .last-is;
             placed = o .placed;
           };

@@ -5,6 +5,7 @@ use mathlib.Core.Bool.{true, false}
 use mathlib.Core.List.{List, []}
 use mathlib.Core.Path.{_≡_}
 use lib.ListN.{length, take}
+use Rattle.line.specs.declared.settings.Settings.{Settings}
 use Rattle.line.specs.Systems.{systemOf, isSystem}
 use Rattle.line.specs.Settings.{Held, settingsFault}
 use Rattle.line.specs.Fixed.{isVariable, sizeOf}
@@ -25,16 +26,20 @@ use Rattle.demands.specs.Sending.{Desk, joinedPieces}
 abbrev pub AllLong : ℕ → List (List ℕ) → Type 0
 AllLong n xs = All (λ (x : List ℕ). length x ≡ n) xs
 
--- an open line: its words, and what it was opened with
-pub record OpenNow (system mode : ℕ) (d : Desk) : Type 0 where
-  pub is-open : Open system mode (d .now .f) (d .now .v) (d .now .number) (d .now .settings) (joined (d .now .pieces)) (d .writer) (d .now .words)
-  pub held : Held (d .now .settings)
+-- a line of this number and these settings may be opened
+pub record Openable (system mode n : ℕ) (t : Settings) : Type 0 where
+  pub held : Held t
   pub known : isSystem system ≡ true
   pub moded : isMode mode ≡ true
   pub row : Sound (systemOf system)
-  pub clean : settingsFault system (d .now .settings) ≡ 0
-  pub one : 1 ≤ d .now .number
-  pub most-lines : d .now .number ≤ systemOf system .lines
+  pub clean : settingsFault system t ≡ 0
+  pub one : 1 ≤ n
+  pub most-lines : n ≤ systemOf system .lines
+
+-- an open line: its words, and what it was opened with
+pub record OpenNow (system mode : ℕ) (d : Desk) : Type 0 where
+  pub is-open : Open system mode (d .now .f) (d .now .v) (d .now .number) (d .now .settings) (joined (d .now .pieces)) (d .writer) (d .now .words)
+  pub openable : Openable system mode (d .now .number) (d .now .settings)
   pub last-is : d .writer .last ≡ Number (d .now .number)
   -- a fixed line has whole places
   pub placed : isVariable (d .now .settings .block) ≡ false → AllLong (sizeOf (d .now .settings .block)) (d .now .pieces)

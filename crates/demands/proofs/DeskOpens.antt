@@ -70,13 +70,7 @@ module _ (d : Desk) (f v : Bool) (n : ℕ) (t : Settings) (lent : List ℕ) (don
         possible = open-possible (d .writer) f v n t lent (ok .possible);
         opened = λ at. record {
           is-open = line;
-          held = held;
-          known = finds .known;
-          moded = finds .moded;
-          row = finds .row;
-          clean = finds .clean;
-          one = finds .one;
-          most-lines = finds .last;
+          openable = record { held = held; known = finds .known; moded = finds .moded; row = finds .row; clean = finds .clean; one = finds .one; most-lines = finds .last };
           last-is = own-opens .last;
           placed = λ fixed. tt;
         };

@@ -143,14 +143,14 @@ module _ (system mode cap : ℕ) (keeps : ℕ → Bool) (d : Desk) (dk : DeskOk 
     places = placesOf (systemOf system .payload) (d .now .settings .block)
 
     some-size : 1 ≤ sizeOf (d .now .settings .block)
-    some-size = grid-some payload (t .block) (t .flag) 0 v (start-placed system t (o .clean)) .0
+    some-size = grid-some payload (t .block) (t .flag) 0 v (start-placed system t (o .openable .clean)) .0
 
     end-is : blocksEnd payload (t .block) (t .flag) ≡ places * size
     unfolding blocksEnd
     end-is = pick-false (areaLength payload (t .flag)) (placesOf payload (t .block) * sizeOf (t .block)) v
 
     in-area : places * size ≤ areaLength payload (t .flag)
-    in-area = subst (λ (n : ℕ). n ≤ areaLength payload (t .flag)) end-is (end-in-area system t (o .known) (o .clean))
+    in-area = subst (λ (n : ℕ). n ≤ areaLength payload (t .flag)) end-is (end-in-area system t (o .openable .known) (o .openable .clean))
 
     fixed-words : blockPart system (d .now .settings) line ≡ take (places * size) area
     unfolding areaOf

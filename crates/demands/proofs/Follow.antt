@@ -25,7 +25,7 @@ use Rattle.reader.specs.Jump.{jumpFrom}
 use Rattle.demands.specs.All.{All}
 use Rattle.demands.specs.Sending.{Call, closes, Sent, Desk, with, closedBy, sentBy}
 use Rattle.demands.specs.Hearing.{Heard, is-begun, is-end}
-use Rattle.demands.specs.Damage.{Fate, kept, removed, replaced, remain, IsRefused, allOn, survivors}
+use Rattle.demands.specs.Damage.{Fate, kept, removed, replaced, remain, RefusedIfReplaced, allOn, survivors}
 use Rattle.demands.proofs.Run.{Now}
 use Rattle.demands.proofs.LineRun.{blockPart}
 use Rattle.demands.proofs.Ear.{Ear, Input, own, refusal, loses, startNow, earAfter, heardAlong, inputOf, inputsOf}
@@ -59,7 +59,7 @@ module _ (system mode cap : ℕ) (keeps : ℕ → Bool) (told : Bool) where
   -- the ear is where the desk is; from there on it hears what was to be told
   abbrev Goal : Desk → List Call → List Sent → Type 0
   Goal d cs ss =
-      All (RoomFor cap) cs → (fs : List Fate) (gone : Bool) (ear : Ear) → Agrees keeps (d .closed) fs → All (IsRefused system mode) fs → length fs ≡ length ss
+      All (RoomFor cap) cs → (fs : List Fate) (gone : Bool) (ear : Ear) → Agrees keeps (d .closed) fs → All (RefusedIfReplaced system mode) fs → length fs ≡ length ss
       → Noticed (systemOf system .lines) told (ear .last) gone fs ss → Ahead system mode cap keeps told gone d ear
       → Tells (systemOf system .lines) keeps (ear .last) gone fs ss (heardAlong system mode ear (inputsOf system mode (remain fs ss)))
 
@@ -88,7 +88,7 @@ module _ (system mode cap : ℕ) (keeps : ℕ → Bool) (told : Bool) where
 
     fit-by : (l : List ℕ) → length l ≡ systemOf system .length → fitsLength system mode (length l) ≡ true
     unfolding fitsLength
-    fit-by l long = and-true (o .known) (and-true (o .moded) (eq-eqb (length l) (systemOf system .length) long))
+    fit-by l long = and-true (o .openable .known) (and-true (o .openable .moded) (eq-eqb (length l) (systemOf system .length) long))
 
     -- an unfinished block has words on this line
     lost-words : (gone : Bool) (ear : Ear) → Ahead system mode cap keeps told gone d ear → keeps (d .closed) ≡ false
@@ -116,7 +116,7 @@ module _ (system mode cap : ℕ) (keeps : ℕ → Bool) (told : Bool) where
       unfolding mine
       kept-ahead =
           let m = area-left system mode cap keeps d dk o c start (a .inside at k noted) in
-          shut-ahead system mode cap keeps told d c false (earAfter system mode ear mine) (record { long = m .long; numbered = (o .one, o .most-lines) })
+          shut-ahead system mode cap keeps told d c false (earAfter system mode ear mine) (record { long = m .long; numbered = (o .openable .one, o .openable .most-lines) })
           (kept-between system mode cap keeps told d c (earAfter system mode ear mine) m refl refl)
 
       -- begun, the blocks, the end; nothing is dropped unless lines were removed before
@@ -186,7 +186,7 @@ module _ (system mode cap : ℕ) (keeps : ℕ → Bool) (told : Bool) where
   goal-by d _ _ _ (is-opened f v n t held lent e) dk k cs ss ih r fs gone ear agrees refusing long noticed a =
       let o = opens-say system mode d f v n t lent dk e in
       let now = k .opened (ap isAt (o .place)) in
-      ih (r .1) fs gone ear agrees refusing long noticed (opened-ahead system mode cap keeps told gone d ear f v n t lent dk o (now .one) (now .most-lines) a k)
+      ih (r .1) fs gone ear agrees refusing long noticed (opened-ahead system mode cap keeps told gone d ear f v n t lent dk o (now .openable .one) (now .openable .most-lines) a k)
   goal-by d _ _ _ (is-finished kind vs clear e) dk k cs ss ih r fs gone ear agrees refusing long noticed a =
       ih (r .1) fs gone ear agrees refusing long noticed (finished-ahead system mode cap keeps told gone d ear kind vs dk clear (r .0) a e)
   goal-by d _ _ _ (is-unfinished kind vs clear e) dk k cs ss ih r fs gone ear agrees refusing long noticed a =

@@ -25,7 +25,7 @@ use Rattle.reader.specs.State.{capacity, fresh}
 use Rattle.demands.specs.All.{All}
 use Rattle.demands.specs.Sending.{Call, Block, Sent, start, sentBy, sentFresh, blocksOf}
 use Rattle.demands.specs.Hearing.{Heard, Reads, handedOut}
-use Rattle.demands.specs.Damage.{Fate, kept, removed, remain, IsRefused, runFrom, keptAt, survivors}
+use Rattle.demands.specs.Damage.{Fate, kept, removed, remain, RefusedIfReplaced, runFrom, keptAt, survivors}
 use Rattle.demands.specs.Demand2.{IsLine, givenBack}
 use Rattle.demands.specs.Demand3.{Follows, Consecutive, HandsOut}
 use Rattle.demands.proofs.AllLaws.{all-behind}
@@ -44,7 +44,7 @@ run-is : (r n : ℕ) → runFrom r (replicate n removed ++ (kept ∷ [])) ≡ r 
 run-is r zero = omega arith
 run-is r (suc n) = omega (arith, run-is (suc r) n)
 
-refusing : (n : ℕ) → All (IsRefused 0 8) (replicate n removed ++ (kept ∷ []))
+refusing : (n : ℕ) → All (RefusedIfReplaced 0 8) (replicate n removed ++ (kept ∷ []))
 refusing zero = (tt, tt)
 refusing (suc n) = (tt, refusing n)
 

@@ -30,10 +30,10 @@ remain (removed ∷ fs) (s ∷ ss) = remain fs ss
 remain (replaced ws ∷ fs) (s ∷ ss) = ws ∷ remain fs ss
 
 -- a line that is replaced: by words of the same length that the line check of that system and mode refuses
-abbrev pub IsRefused : ℕ → ℕ → Fate → Type 0
-IsRefused system mode kept = Unit {0}
-IsRefused system mode removed = Unit {0}
-IsRefused system mode (replaced ws) = (length ws ≡ systemOf system .length) × (lineFault system mode ws ≡ 0 → ⊥)
+abbrev pub RefusedIfReplaced : ℕ → ℕ → Fate → Type 0
+RefusedIfReplaced system mode kept = Unit {0}
+RefusedIfReplaced system mode removed = Unit {0}
+RefusedIfReplaced system mode (replaced ws) = (length ws ≡ systemOf system .length) × (lineFault system mode ws ≡ 0 → ⊥)
 
 -- how many lines the longest run of removed lines has; r lines just before these were removed
 abbrev pub runFrom : ℕ → List Fate → ℕ

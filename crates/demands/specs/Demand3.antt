@@ -19,7 +19,7 @@ use Rattle.reader.specs.State.{capacity, fresh}
 use Rattle.demands.specs.All.{All}
 use Rattle.demands.specs.Sending.{Call, Sent, Desk, valuesNow, sentFresh, blocksOf}
 use Rattle.demands.specs.Hearing.{Heard, is-refused, is-begun, is-block, is-drop, is-end, Lends, Reads, Readable, handedOut}
-use Rattle.demands.specs.Damage.{Fate, remain, IsRefused, longestRun, keptAt, survivors}
+use Rattle.demands.specs.Damage.{Fate, remain, RefusedIfReplaced, longestRun, keptAt, survivors}
 
 -- each number comes after the number before it; the number after N is 1
 abbrev pub Follows : ℕ → ℕ → List Sent → Type 0
@@ -37,7 +37,7 @@ pub record Transmission (system mode bound : ℕ) (cs : List Call) (fs : List Fa
   pub numbers : Consecutive (systemOf system .lines) (sentFresh system mode cs)
   pub each-line : length fs ≡ length (sentFresh system mode cs)
   pub runs : longestRun fs < bound
-  pub refusing : All (IsRefused system mode) fs
+  pub refusing : All (RefusedIfReplaced system mode) fs
 
 -- a refusal has none of the answers 1 and 2
 abbrev pub IsFrom3 : Heard → Type 0
