@@ -3,14 +3,14 @@
 use mathlib.Core.Path.{_≡_, sym, ap, ap₂, _∙_, subst}
 use mathlib.Core.Bool.{Bool, true, false, _&&_, not}
 use mathlib.Core.List.{List, [], _∷_}
-use Prim.Native.Nat.{ℕ, zero, suc, _-_, _*_, _/_, _≤_}
+use Prim.Native.Nat.{ℕ, suc, _-_, _*_, _/_, _≤_}
 use native.Mathlib.Nat.{suc-mul, mul-div-cancel, zero-mul}
 use native.Mathlib.Omega.{arith}
-use lib.Dec.{eqb, lit≤}
+use lib.Dec.{eqb, leb, lit≤}
 use lib.ListN.{length, length-append}
 use borrow.Author.Tests.{leb-true, ltb-true, not-false}
 use Rattle.lists.specs.Tests.{pick}
-use Rattle.lists.proofs.Tests.{true-false, or-right, pick-true}
+use Rattle.lists.proofs.Tests.{true-false, below, or-right, pick-true}
 use Rattle.line.specs.declared.settings.Settings.{Settings}
 use Rattle.line.specs.Systems.{systemOf, isSystem}
 use Rattle.line.specs.Fixed.{isVariable, sizeOf, placesOf}
@@ -37,11 +37,7 @@ use Rattle.demands.proofs.DeskCalls.{owing-stays}
 -- ---- an area has a word, with either flag
 payload-some : (system : ℕ) → isSystem system ≡ true → 3 ≤ systemOf system .payload
 unfolding isSystem
-payload-some zero e = lit≤ tt
-payload-some (suc zero) e = lit≤ tt
-payload-some (suc (suc zero)) e = lit≤ tt
-payload-some (suc (suc (suc zero))) e = lit≤ tt
-payload-some (suc (suc (suc (suc n)))) e = absurd (omega (arith, ltb-true (suc (suc (suc (suc n)))) 4 e))
+payload-some system e = lit≤ (below 4 (λ (s : ℕ). leb 3 (systemOf s .payload)) tt system (ltb-true system 4 e))
 
 area-by : (p : ℕ) (b : Bool) → 3 ≤ p → 1 ≤ pick b (p - 2) p
 unfolding pick
