@@ -7,14 +7,20 @@ use Prim.Native.Nat.{ℕ}
 use native.Mathlib.Omega.{arith}
 use lib.ListN.{length}
 use Rattle.lists.specs.Tests.{pick}
+use Rattle.lists.proofs.Tests.{true-false}
 use Rattle.line.specs.declared.settings.Settings.{Settings}
 use Rattle.line.specs.Settings.{Held}
 use Rattle.line.specs.Fixed.{isVariable}
+use Rattle.course.specs.declared.Place.the-variants.{Shut, At}
+use Rattle.course.specs.Course.{isAt}
+use Rattle.writer.specs.declared.state.Rest.{Rest}
+use Rattle.writer.specs.declared.state.Rest.the-variants.{Whole, Part}
 use Rattle.writer.specs.declared.state.Writer.{Writer}
 use Rattle.writer.specs.declared.state.Answer.{Answer}
 use Rattle.writer.specs.declared.state.Answer.the-variants.{Refused, Done}
 use Rattle.writer.specs.declared.state.Laid.{Laid}
 use Rattle.writer.specs.declared.state.Laid.the-variants.{Not, Finished, Unfinished}
+use Rattle.writer.specs.State.{isPart}
 use Rattle.writer.specs.Answers.{laidNumbers, Added}
 use Rattle.writer.specs.Opening.{opening}
 use Rattle.writer.specs.Adding.{addFault, adding}
@@ -33,6 +39,10 @@ joined-pieces-append (p ∷ ps) qs =
 pub joined-append : (ps qs : List (List ℕ)) → joined (ps ++ qs) ≡ joined ps ++ joined qs
 joined-append [] qs = refl
 joined-append (p ∷ ps) qs = ap (λ (l : List ℕ). p ++ l) (joined-append ps qs) ∙ sym (append-assoc p (joined ps) (joined qs))
+
+-- ---- a line is open or not
+pub shut-at : (p : ℕ) → Shut ≡ At p → ⊥
+shut-at p e = true-false (sym (ap isAt e))
 
 -- ---- opening
 module _ (d : Desk) (f v : Bool) (n : ℕ) (t : Settings) (held : Held t) (lent : List ℕ) where
@@ -107,6 +117,21 @@ own system mode d ok =
 
 pub by-own : (system mode : ℕ) (d : Desk) (P : ℕ → ℕ → Type 0) → DeskOk system mode d → P (d .writer .system) (d .writer .mode) → P system mode
 by-own system mode d P ok p = subst (λ (s : ℕ). P s mode) (ok .of-system) (subst (λ (m : ℕ). P (d .writer .system) m) (ok .of-mode) p)
+
+-- with no block unfinished nothing is owing, and so in a fixed line
+pub none-left : (system mode : ℕ) (d : Desk) → DeskOk system mode d → isPart (d .writer .rest) ≡ false → d .pieces ≡ []
+none-left system mode d ok e = by (d .writer .rest) refl
+  where
+    by : (r : Rest) → d .writer .rest ≡ r → d .pieces ≡ []
+    by Whole h = ok .none-owing h
+    by (Part k n j) h = absurd (true-false (sym (ap isPart h) ∙ e))
+
+pub fixed-none : (system mode : ℕ) (d : Desk) → DeskOk system mode d → isVariable (d .writer .settings .block) ≡ false → d .pieces ≡ []
+fixed-none system mode d ok v = by (d .writer .rest) refl
+  where
+    by : (r : Rest) → d .writer .rest ≡ r → d .pieces ≡ []
+    by Whole h = ok .none-owing h
+    by (Part k n j) h = absurd (true-false (sym (ok .owing k n j h .variable) ∙ v))
 
 -- an unfinished block stays where the block type of the settings does
 pub owing-stays : (mode : ℕ) (d : Desk) (w : Writer) (s : Sent) (c kind n j : ℕ) → w .settings .block ≡ d .writer .settings .block → Owing mode d kind n j

@@ -17,11 +17,8 @@ use Rattle.line.specs.Layout.{payloadAt, areaLength, areaOf}
 use Rattle.line.specs.Check.{numberOf, settingsOf, fits, lineFault, checkedFrom, checkedOf}
 use Rattle.line.specs.declared.check.Checked.{Checked}
 use Rattle.course.specs.declared.Last.the-variants.{Number}
-use Rattle.course.specs.declared.Place.the-variants.{Shut, At}
 use Rattle.course.specs.Course.{isAt, blocksEnd}
 use Rattle.course.proofs.CourseLaws.{end-in-area, start-placed, grid-some}
-use Rattle.writer.specs.declared.state.Rest.{Rest}
-use Rattle.writer.specs.declared.state.Rest.the-variants.{Whole, Part}
 use Rattle.writer.specs.declared.state.Answer.the-variants.{Done}
 use Rattle.writer.specs.State.{isPart}
 use Rattle.writer.specs.Closing.{closing}
@@ -40,9 +37,10 @@ use Rattle.demands.proofs.LineRun.{leftOut, leftTo, blockPart, areaOut,
 use Rattle.demands.proofs.Ear.{Ear, own, refusal, inputBy, inputOf}
 use Rattle.demands.proofs.DeskOk.{OpenNow, DeskOk}
 use Rattle.demands.proofs.Outcomes.{Closes}
+use Rattle.demands.proofs.DeskCalls.{shut-at, none-left, fixed-none}
 use Rattle.demands.proofs.DeskCloses.{long-joined}
 use Rattle.demands.proofs.Ahead.{blocksHeard, Matches, ByWords, ByPlaces, Inside, isKnown, Between, Listens, Ahead}
-use Rattle.demands.proofs.StartLine.{part-none, idle-behind, matches-idle}
+use Rattle.demands.proofs.StartLine.{idle-behind, matches-idle}
 
 -- ---- what the line check found
 fault-none : (line : List ℕ) (k : ℕ) → checkedFrom k line .fault ≡ 0 → k ≡ 0
@@ -92,9 +90,6 @@ module _ (system mode cap : ℕ) (keeps : ℕ → Bool) (d : Desk) (dk : DeskOk 
   abbrev line : List ℕ
   line = closing (d .writer) (d .now .words) .line
 
-  none-left : isPart (d .writer .rest) ≡ false → d .pieces ≡ []
-  none-left e = dk .none-owing (part-none (d .writer .rest) e)
-
   -- ---- a variable line: what was laid, and filler
   variable-words : isVariable (d .now .settings .block) ≡ true → blockPart system (d .now .settings) line ≡ area
   unfolding areaOf blocksEnd
@@ -119,7 +114,7 @@ module _ (system mode cap : ℕ) (keeps : ℕ → Bool) (d : Desk) (dk : DeskOk 
             let z : count ≡ 0 = omega arith in
             (ap (λ (n : ℕ). runOut mode mid (replicate n 0x200)) z, ap (λ (n : ℕ). runTo mode mid (replicate n 0x200)) z)
         by false e =
-            let i = idle-behind mode cap keeps (d .pieces) mid (none-left e) (w .matches) in
+            let i = idle-behind mode cap keeps (d .pieces) mid (none-left system mode d dk e) (w .matches) in
             let m : mid ≡ idle (mid .room) = ap (λ (p : Phase). now p (mid .room)) i in (
               ap (λ (x : Now). runOut mode x (replicate count 0x200)) m ∙ filler-out mode count (mid .room),
               ap (λ (x : Now). runTo mode x (replicate count 0x200)) m ∙ filler-to mode count (mid .room) ∙ sym m,
@@ -194,11 +189,7 @@ module _ (system mode cap : ℕ) (keeps : ℕ → Bool) (d : Desk) (dk : DeskOk 
         ∙ places-stay mode size empty _ some-size
 
     none-owing : d .pieces ≡ []
-    none-owing = by (d .writer .rest) refl
-      where
-        by : (r : Rest) → d .writer .rest ≡ r → d .pieces ≡ []
-        by Whole h = dk .none-owing h
-        by (Part i m j) h = absurd (true-false (sym (dk .owing i m j h .variable) ∙ ap (λ (u : Settings). isVariable (u .block)) (c .settings-are) ∙ v))
+    none-owing = fixed-none system mode d dk (ap (λ (u : Settings). isVariable (u .block)) (c .settings-are) ∙ v)
 
   -- ---- any line
   pub area-heard : Inside mode cap keeps d q → areaOut (systemOf system .payload) mode (d .now .settings) q (blockPart system (d .now .settings) (closing (d .writer) (d .now .words) .line)) ≡ blocksHeard (survivors keeps (d .now .blocks))
@@ -223,9 +214,6 @@ module _ (system mode cap : ℕ) (keeps : ℕ → Bool) (d : Desk) (dk : DeskOk 
           (matches-idle mode cap keeps (d .pieces) (now (q .phase) (placesTo mode (q .room) (d .now .pieces))) (none-owing v w) (w .phase) (w .long))
 
 -- ---- between this line and the next
-shut-at : (p : ℕ) → Shut ≡ At p → ⊥
-shut-at p e = true-false (sym (ap isAt e))
-
 module _ (system mode cap : ℕ) (keeps : ℕ → Bool) (told : Bool) (d : Desk) (c : Closes system mode d) where
   abbrev next : Desk
   next = closedBy Done (closing (d .writer) (d .now .words)) d
@@ -272,4 +260,4 @@ module _ (system mode cap : ℕ) (keeps : ℕ → Bool) (told : Bool) (d : Desk)
     where
       by : (b : Bool) → isPart (d .writer .rest) ≡ b → Matches mode cap keeps (d .pieces) (now (ear .phase) (ear .room))
       by true e = record { long = l; whole = λ w. absurd (true-false (sym w ∙ h e)); lost = λ w. i }
-      by false e = matches-idle mode cap keeps (d .pieces) (now (ear .phase) (ear .room)) (dk .none-owing (part-none (d .writer .rest) e)) i l
+      by false e = matches-idle mode cap keeps (d .pieces) (now (ear .phase) (ear .room)) (none-left system mode d dk e) i l

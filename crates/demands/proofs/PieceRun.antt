@@ -23,29 +23,19 @@ use Rattle.demands.proofs.Ahead.{blocksHeard, Behind, Matches}
 use Rattle.demands.proofs.RunLaws.{run-to-append, run-out-append, run-room}
 use Rattle.demands.proofs.BlockRun.{Shaped, block-long, whole-out, whole-to, front-out, behind-out, behind-to}
 
-pub all-append : (keeps : ℕ → Bool) (ps qs : List Piece) → allOn keeps (ps ++ qs) ≡ (allOn keeps ps && allOn keeps qs)
-all-append keeps [] qs = refl
-all-append keeps (p ∷ ps) qs = ap (λ (b : Bool). keeps (p .line) && b) (all-append keeps ps qs) ∙ sym (and-assoc (keeps (p .line)) (allOn keeps ps) (allOn keeps qs))
-  where
-    and-assoc : (a b c : Bool) → ((a && b) && c) ≡ (a && (b && c))
-    and-assoc true b c = refl
-    and-assoc false b c = refl
+pub and-none : (a : Bool) → (a && false) ≡ false
+and-none true = refl
+and-none false = refl
 
 -- one more piece on a line that is kept
 pub all-one : (keeps : ℕ → Bool) (ps : List Piece) (p : Piece) → keeps (p .line) ≡ true → allOn keeps (ps ++ (p ∷ [])) ≡ allOn keeps ps
-all-one keeps ps p e = all-append keeps ps (p ∷ []) ∙ ap (λ (b : Bool). allOn keeps ps && (b && true)) e ∙ and-yes (allOn keeps ps)
-  where
-    and-yes : (a : Bool) → (a && true) ≡ a
-    and-yes true = refl
-    and-yes false = refl
+all-one keeps [] p e = ap (λ (b : Bool). b && true) e
+all-one keeps (q ∷ ps) p e = ap (λ (b : Bool). keeps (q .line) && b) (all-one keeps ps p e)
 
 -- and on one that is not
 pub all-lost : (keeps : ℕ → Bool) (ps : List Piece) (p : Piece) → keeps (p .line) ≡ false → allOn keeps (ps ++ (p ∷ [])) ≡ false
-all-lost keeps ps p e = all-append keeps ps (p ∷ []) ∙ ap (λ (b : Bool). allOn keeps ps && (b && true)) e ∙ and-none (allOn keeps ps)
-  where
-    and-none : (a : Bool) → (a && false) ≡ false
-    and-none true = refl
-    and-none false = refl
+all-lost keeps [] p e = ap (λ (b : Bool). b && true) e
+all-lost keeps (q ∷ ps) p e = ap (λ (b : Bool). keeps (q .line) && b) (all-lost keeps ps p e) ∙ and-none (keeps (q .line))
 
 module _ (mode cap kind : ℕ) (us : List ℕ) (s : Shaped mode kind us) (fit : length us ≤ cap) (keeps : ℕ → Bool) (ps : List Piece) (q : Now) (m : Matches mode cap keeps ps q) (j k : ℕ)
     (before : joinedPieces ps ≡ take j (blockWords mode kind us)) (piece : List ℕ) (is : piece ≡ take k (drop j (blockWords mode kind us)))

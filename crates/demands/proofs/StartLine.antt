@@ -14,10 +14,8 @@ use Rattle.line.specs.Settings.{sameSettings}
 use Rattle.line.specs.Fixed.{isVariable}
 use Rattle.course.specs.declared.Last.{Last}
 use Rattle.course.specs.declared.Last.the-variants.{Unknown, Number}
-use Rattle.course.specs.declared.Place.the-variants.{Shut, At}
-use Rattle.course.specs.Course.{isAt, placeOf}
-use Rattle.writer.specs.declared.state.Rest.{Rest}
-use Rattle.writer.specs.declared.state.Rest.the-variants.{Whole, Part}
+use Rattle.course.specs.declared.Place.the-variants.{At}
+use Rattle.course.specs.Course.{placeOf}
 use Rattle.writer.specs.declared.state.Answer.the-variants.{Done}
 use Rattle.writer.specs.State.{isPart}
 use Rattle.writer.specs.Opening.{isNext, opening}
@@ -33,7 +31,9 @@ use Rattle.demands.proofs.Run.{Now, now, idle, runTo}
 use Rattle.demands.proofs.Ear.{Ear, goesOnIn, startNow}
 use Rattle.demands.proofs.DeskOk.{DeskOk}
 use Rattle.demands.proofs.Outcomes.{Opens}
+use Rattle.demands.proofs.DeskCalls.{shut-at, none-left, fixed-none}
 use Rattle.demands.proofs.Ahead.{Matches, Between, Numbered, Noted, Ahead}
+use Rattle.demands.proofs.PieceRun.{and-none}
 
 -- ---- the jump is 0 exactly where the number is next
 zero-next : (system : ℕ) (l : Last) (n : ℕ) → Numbered (systemOf system .lines) l → 1 ≤ n → n ≤ systemOf system .lines
@@ -46,11 +46,7 @@ goes-by : (system mode : ℕ) (e : Ear) (n : ℕ) (t : Settings) → Numbered (s
 unfolding goesOn
 goes-by system mode e n t r one most = ap (λ (b : Bool). b && sameSettings t (e .settings)) (zero-next system (e .last) n r one most)
 
--- ---- an unfinished block or none
-pub part-none : (r : Rest) → isPart r ≡ false → r ≡ Whole
-part-none Whole e = refl
-part-none (Part k n j) e = absurd (true-false e)
-
+-- ---- idle
 pick-idle : (b : Bool) (p : Phase) → p ≡ Idle → pick b p Idle ≡ Idle
 unfolding pick
 pick-idle true p e = e
@@ -81,9 +77,6 @@ module _ (system mode cap : ℕ) (keeps : ℕ → Bool) (told gone : Bool) (d : 
   goes : goesOnIn system mode ear n t ≡ (isNext (systemOf system .lines) (ear .last) n && sameSettings t (ear .settings))
   goes = goes-by system mode ear n t (a .listens .numbered) one most
 
-  none-left : isPart (d .writer .rest) ≡ false → d .pieces ≡ []
-  none-left e = ok .none-owing (part-none (d .writer .rest) e)
-
   -- behind a gap that is noticed
   start-gone : gone ≡ true → isNext (systemOf system .lines) (ear .last) n ≡ false → Matches mode cap keeps (d .pieces) (startNow system mode ear n t)
   start-gone g h =
@@ -93,7 +86,7 @@ module _ (system mode cap : ℕ) (keeps : ℕ → Bool) (told gone : Bool) (d : 
     where
       by : pick (goesOnIn system mode ear n t) (ear .phase) Idle ≡ Idle → (b : Bool) → isPart (d .writer .rest) ≡ b → Matches mode cap keeps (d .pieces) (startNow system mode ear n t)
       by i true e = record { long = a .listens .long; whole = λ w. absurd (true-false (sym w ∙ here .away g e)); lost = λ w. i }
-      by i false e = matches-idle mode cap keeps (d .pieces) (startNow system mode ear n t) (none-left e) i (a .listens .long)
+      by i false e = matches-idle mode cap keeps (d .pieces) (startNow system mode ear n t) (none-left system mode d ok e) i (a .listens .long)
 
   -- an unfinished block, all of it kept, goes on
   goes-part : Noted (systemOf system .lines) told (ear .last) gone n → gone ≡ false → isPart (d .writer .rest) ≡ true → allOn keeps (d .pieces) ≡ true
@@ -109,8 +102,8 @@ module _ (system mode cap : ℕ) (keeps : ℕ → Bool) (told gone : Bool) (d : 
     where
       by : (b : Bool) → isPart (d .writer .rest) ≡ b → Matches mode cap keeps (d .pieces) (startNow system mode ear n t)
       by false e =
-          let i = idle-behind mode cap keeps (d .pieces) (now (ear .phase) (ear .room)) (none-left e) (here .here g) in
-          matches-idle mode cap keeps (d .pieces) (startNow system mode ear n t) (none-left e) (pick-idle (goesOnIn system mode ear n t) (ear .phase) i) (a .listens .long)
+          let i = idle-behind mode cap keeps (d .pieces) (now (ear .phase) (ear .room)) (none-left system mode d ok e) (here .here g) in
+          matches-idle mode cap keeps (d .pieces) (startNow system mode ear n t) (none-left system mode d ok e) (pick-idle (goesOnIn system mode ear n t) (ear .phase) i) (a .listens .long)
       by true e = record {
         long = a .listens .long;
         whole = λ w.
@@ -131,41 +124,25 @@ module _ (system mode cap : ℕ) (keeps : ℕ → Bool) (told gone : Bool) (d : 
   start-none-dropped h g = by (isPart (d .writer .rest)) (allOn keeps (d .pieces)) refl refl
     where
       by : (b c : Bool) → isPart (d .writer .rest) ≡ b → allOn keeps (d .pieces) ≡ c → (isBusy (ear .phase) && not (goesOnIn system mode ear n t)) ≡ false
-      by false c e w = busy-idle (ear .phase) _ (idle-behind mode cap keeps (d .pieces) (now (ear .phase) (ear .room)) (none-left e) (here .here g))
+      by false c e w = busy-idle (ear .phase) _ (idle-behind mode cap keeps (d .pieces) (now (ear .phase) (ear .room)) (none-left system mode d ok e) (here .here g))
       by true false e w = busy-idle (ear .phase) _ (here .here g .lost w)
       by true true e w = ap (λ (x : Bool). isBusy (ear .phase) && not x) (goes-part h g e w) ∙ and-none (isBusy (ear .phase))
-        where
-          and-none : (x : Bool) → (x && false) ≡ false
-          and-none true = refl
-          and-none false = refl
 
   abbrev next : Desk
   next = openedBy Done (opening (d .writer) f v n t lent) d f v n t
-
-  -- a fixed line is opened with nothing owing
-  fixed-none : DeskOk system mode next → isVariable (t .block) ≡ false → d .pieces ≡ []
-  fixed-none k e = by (opening (d .writer) f v n t lent .state .rest) refl
-    where
-      by : (r : Rest) → opening (d .writer) f v n t lent .state .rest ≡ r → d .pieces ≡ []
-      by Whole h = k .none-owing h
-      by (Part i m j) h =
-          absurd (true-false (sym (k .owing i m j h .variable) ∙ ap (λ (u : Settings). isVariable (u .block)) (o .settings) ∙ e))
 
   pub opened-ahead : DeskOk system mode (openedBy Done (opening (d .writer) f v n t lent) d f v n t)
       → Ahead system mode cap keeps told gone (openedBy Done (opening (d .writer) f v n t lent) d f v n t) ear
   opened-ahead k = record {
     listens = a .listens;
-    between = λ e. absurd (shut-at (sym e ∙ o .place));
+    between = λ e. absurd (shut-at 0 (sym e ∙ o .place));
     inside = λ e h g. record {
       by-words = λ w. record { heard = refl; matches = start-matches g };
-      by-places = λ w. record { heard = refl; phase = idle-behind mode cap keeps (d .pieces) (startNow system mode ear n t) (fixed-none k w) (start-matches g); long = a .listens .long };
+      by-places = λ w. record { heard = refl; phase = idle-behind mode cap keeps (d .pieces) (startNow system mode ear n t) (fixed-none system mode next k (ap (λ (u : Settings). isVariable (u .block)) (o .settings) ∙ w)) (start-matches g); long = a .listens .long };
     };
     none-dropped = λ e h g. start-none-dropped h g;
     missing = λ h p e least part. absurd (at-zero p (sym (o .place) ∙ e) least);
   }
     where
-      shut-at : Shut ≡ At 0 → ⊥
-      shut-at e = true-false (sym (ap isAt e))
-
       at-zero : (p : ℕ) → At 0 ≡ At p → 1 ≤ p → ⊥
       at-zero p e h = let z : 0 ≡ p = ap placeOf e in omega arith

@@ -35,13 +35,15 @@ abbrev pub IsLine : ℕ → Sent → Type 0
 IsLine system s =
     s .words ≡ lineWords (systemOf system) (s .f) (s .v) (s .number) (s .settings) (areaFrom (systemOf system .payload) (s .settings .flag) (s .pieces))
 
--- The pieces in which a block was laid have one word or more each, and joined they are the block's words, by the block type of the line on which it was finished.
+-- a piece has one word or more
 abbrev pub HasWord : Piece → Type 0
 HasWord p = 1 ≤ length (p .words)
 
+-- The pieces in which a block was laid, joined, are its words, by the block type of the line on which it was finished; and none of them is empty.
 abbrev pub IsBlock : ℕ → ℕ → Complete → Type 0
 IsBlock block mode b = (joinedPieces (b .pieces) ≡ wordsIn block mode (b .block .kind) (b .block .values)) × All HasWord (b .pieces)
 
+-- each block finished on a line
 abbrev pub HasBlocks : ℕ → Sent → Type 0
 HasBlocks mode s = All (IsBlock (s .settings .block) mode) (s .blocks)
 
