@@ -82,8 +82,8 @@ module _ (system mode cap : ℕ) (keeps : ℕ → Bool) (told gone : Bool) (d : 
   was-begun e = by (d .writer .rest) refl
     where
       by : (r : Rest) → d .writer .rest ≡ r → 1 ≤ laidOf (d .writer .rest)
-      by Whole h = absurd (true-false (sym (ap (allOn keeps) (dk .none-owing h)) ∙ e))
-      by (Part k n j) h = subst (λ (i : ℕ). 1 ≤ i) (sym (ap laidOf h)) (dk .owing k n j h .some)
+      by Whole h = absurd (true-false (sym (ap (allOn keeps) (dk .owes .none-owing h)) ∙ e))
+      by (Part k n j) h = subst (λ (i : ℕ). 1 ≤ i) (sym (ap laidOf h)) (dk .owes .owing k n j h .some)
 
   module _ (q : Now) (y : Varies mode d kind vs) (w : ByWords mode cap keeps d q) where
     shaped : Shaped mode kind (valuesNow d vs)
@@ -177,7 +177,7 @@ module _ (system mode cap : ℕ) (keeps : ℕ → Bool) (told gone : Bool) (d : 
   finished-ahead e =
       laid-ahead (d .now .blocks ++ (completeNow d kind vs ∷ [])) [] []
       (λ k q i. record { by-words = λ v. words-end q (says .varies v) (i .by-words v) k e; by-places = λ v. places-end q (says .fills v) (i .by-places v) k })
-      (λ k part. absurd (true-false (sym part ∙ ap isPart (rest-whole system mode d kind vs dk clear e))))
+      (λ k part. absurd (true-false (sym part ∙ ap isPart (rest-whole mode d kind vs (dk .owes) clear e))))
 
   pub unfinished-ahead : adding (d .writer) (d .now .words) kind vs .answer ≡ Unfinished
       → Ahead system mode cap keeps told gone (addedBy Unfinished (adding (d .writer) (d .now .words) kind vs) d kind vs) ear

@@ -24,7 +24,7 @@ use Rattle.writer.proofs.Pieces.{rest-left, varies}
 use Rattle.writer.proofs.Writing.{Open, laid-on}
 use Rattle.demands.specs.Sending.{Piece, Complete, Desk, valuesNow, pieceNow, addedBy}
 use Rattle.demands.proofs.AllLaws.{all-more}
-use Rattle.demands.proofs.DeskOk.{OpenNow, Owing, DeskOk}
+use Rattle.demands.proofs.DeskOk.{OpenNow, Owing, Owes, DeskOk}
 use Rattle.demands.proofs.DeskCalls.{joined-append, laidDesk}
 use Rattle.demands.proofs.DeskAdds.{now-open, lent-now, all-now, words-now, goes-now, adds-say}
 
@@ -41,16 +41,66 @@ abbrev valuesOf : Rest → ℕ
 valuesOf Whole = 0
 valuesOf (Part k n j) = n
 
+-- ---- what is owed, from any state and whatever words the line has
+module _ (mode : ℕ) (d : Desk) (kind : ℕ) (vs : List ℕ) (ow : Owes mode d) (clear : addFault (d .writer) (length (d .now .words)) kind vs ≡ 0) where
+  abbrev k : ℕ
+  k = room (d .writer) (todo (d .writer) kind vs)
+
+  pub leaves : adding (d .writer) (d .now .words) kind vs ≡ lay (d .writer) (d .now .words) kind vs
+  leaves = add-leaves (d .writer) (d .now .words) kind vs clear
+
+  mode-stays : adding (d .writer) (d .now .words) kind vs .state .mode ≡ mode
+  mode-stays = ap (λ (y : Added). y .state .mode) leaves ∙ ow .of-mode
+
+  -- finished: no block is left
+  pub rest-whole : adding (d .writer) (d .now .words) kind vs .answer ≡ Finished → adding (d .writer) (d .now .words) kind vs .state .rest ≡ Whole
+  rest-whole e = ap (λ (y : Added). y .state .rest) leaves ∙ pick-true _ _ (eq-eqb _ _ (all-now mode d kind vs ow clear e))
+
+  pub finished-owes : adding (d .writer) (d .now .words) kind vs .answer ≡ Finished
+      → Owes mode (addedBy Finished (adding (d .writer) (d .now .words) kind vs) d kind vs)
+  finished-owes e =
+      record { of-mode = mode-stays; none-owing = λ r. refl; owing = λ c n j r. absurd (true-false (sym (ap isPart r) ∙ ap isPart (rest-whole e))) }
+
+  -- unfinished: what is laid now is the unfinished block
+  owing-now : adding (d .writer) (d .now .words) kind vs .answer ≡ Unfinished
+      → Owing mode (addedBy Unfinished (adding (d .writer) (d .now .words) kind vs) d kind vs) kind (length vs) (laidOf (d .writer .rest) + k)
+  owing-now e =
+      let v = varies (d .writer) (d .now .words) kind vs clear e in
+      let lent = lent-now mode d kind vs ow clear in
+      let range = goes-now mode d kind vs ow clear v e in
+      record {
+        variable = ap (λ (y : Added). isVariable (y .state .settings .block)) leaves ∙ v;
+        long = lent .long;
+        values-fit = lent .fits;
+        some = range .0;
+        short = range .1;
+        words = words-now mode d kind vs ow clear v;
+      }
+
+  owing-as : adding (d .writer) (d .now .words) kind vs .answer ≡ Unfinished → (c n j : ℕ)
+      → adding (d .writer) (d .now .words) kind vs .state .rest ≡ Part c n j
+      → Owing mode (addedBy Unfinished (adding (d .writer) (d .now .words) kind vs) d kind vs) c n j
+  owing-as e c n j r =
+      let desk = addedBy Unfinished (adding (d .writer) (d .now .words) kind vs) d kind vs in
+      let same : Part kind (length vs) (laidOf (d .writer .rest) + k) ≡ Part c n j = sym (rest-left (d .writer) (d .now .words) kind vs clear e) ∙ r in
+      subst (λ (i : ℕ). Owing mode desk c n i) (ap laidOf same)
+      (subst (λ (m : ℕ). Owing mode desk c m (laidOf (d .writer .rest) + k)) (ap valuesOf same)
+      (subst (λ (h : ℕ). Owing mode desk h (length vs) (laidOf (d .writer .rest) + k)) (ap kindOf same) (owing-now e)))
+
+  pub unfinished-owes : adding (d .writer) (d .now .words) kind vs .answer ≡ Unfinished
+      → Owes mode (addedBy Unfinished (adding (d .writer) (d .now .words) kind vs) d kind vs)
+  unfinished-owes e =
+      record {
+        of-mode = mode-stays;
+        none-owing = λ r. absurd (true-false (sym (ap isPart (rest-left (d .writer) (d .now .words) kind vs clear e)) ∙ ap isPart r));
+        owing = owing-as e;
+      }
+
+-- ---- the line
 module _ (system mode : ℕ) (d : Desk) (kind : ℕ) (vs : List ℕ) (ok : DeskOk system mode d)
     (clear : addFault (d .writer) (length (d .now .words)) kind vs ≡ 0) where
   abbrev x : Added
   x = adding (d .writer) (d .now .words) kind vs
-
-  abbrev k : ℕ
-  k = room (d .writer) (todo (d .writer) kind vs)
-
-  leaves : adding (d .writer) (d .now .words) kind vs ≡ lay (d .writer) (d .now .words) kind vs
-  leaves = add-leaves (d .writer) (d .now .words) kind vs clear
 
   -- the line is open still, with one piece more
   line-now : Open system mode (d .now .f) (d .now .v) (d .now .number) (d .now .settings) (joined (d .now .pieces ++ (pieceOf (d .writer) (d .now .words) kind vs ∷ [])))
@@ -75,60 +125,24 @@ module _ (system mode : ℕ) (d : Desk) (kind : ℕ) (vs : List ℕ) (ok : DeskO
       record {
         is-open = line-now;
         openable = o .openable;
-        last-is = ap (λ (y : Added). y .state .last) leaves ∙ o .last-is;
+        last-is = ap (λ (y : Added). y .state .last) (leaves mode d kind vs (ok .owes) clear) ∙ o .last-is;
         placed = λ v.
             all-more (λ (l : List ℕ). length l ≡ sizeOf (d .now .settings .block)) (d .now .pieces) (pieceOf (d .writer) (d .now .words) kind vs) (o .placed v) (piece-long v);
       }
 
-  laid-ok : (bs : List Complete) (us : List ℕ) (ps : List Piece) → (adding (d .writer) (d .now .words) kind vs .state .rest ≡ Whole → ps ≡ [])
-      → ((c n j : ℕ) → adding (d .writer) (d .now .words) kind vs .state .rest ≡ Part c n j → Owing mode (laidDesk d kind vs bs us ps) c n j)
-      → DeskOk system mode (laidDesk d kind vs bs us ps)
-  laid-ok bs us ps none some =
+  laid-ok : (bs : List Complete) (us : List ℕ) (ps : List Piece) → Owes mode (laidDesk d kind vs bs us ps) → DeskOk system mode (laidDesk d kind vs bs us ps)
+  laid-ok bs us ps ow =
       record {
-        of-system = ap (λ (y : Added). y .state .system) leaves ∙ ok .of-system;
-        of-mode = ap (λ (y : Added). y .state .mode) leaves ∙ ok .of-mode;
+        of-system = ap (λ (y : Added). y .state .system) (leaves mode d kind vs (ok .owes) clear) ∙ ok .of-system;
         possible = add-possible (d .writer) (d .now .words) kind vs (ok .possible);
         opened = λ at. open-after bs us ps;
-        none-owing = none;
-        owing = some;
+        owes = ow;
       }
-
-  -- finished: no block is left
-  pub rest-whole : adding (d .writer) (d .now .words) kind vs .answer ≡ Finished → adding (d .writer) (d .now .words) kind vs .state .rest ≡ Whole
-  rest-whole e = ap (λ (y : Added). y .state .rest) leaves ∙ pick-true _ _ (eq-eqb _ _ (all-now system mode d kind vs ok clear e))
 
   pub finished-ok : adding (d .writer) (d .now .words) kind vs .answer ≡ Finished
       → DeskOk system mode (addedBy Finished (adding (d .writer) (d .now .words) kind vs) d kind vs)
-  finished-ok e = laid-ok _ [] [] (λ r. refl) (λ c n j r. absurd (true-false (sym (ap isPart r) ∙ ap isPart (rest-whole e))))
-
-  -- unfinished: what is laid now is the unfinished block
-  owing-now : adding (d .writer) (d .now .words) kind vs .answer ≡ Unfinished
-      → Owing mode (addedBy Unfinished (adding (d .writer) (d .now .words) kind vs) d kind vs) kind (length vs) (laidOf (d .writer .rest) + k)
-  owing-now e =
-      let v = varies (d .writer) (d .now .words) kind vs clear e in
-      let lent = lent-now system mode d kind vs ok clear in
-      let range = goes-now system mode d kind vs ok clear v e in
-      record {
-        variable = ap (λ (y : Added). isVariable (y .state .settings .block)) leaves ∙ v;
-        long = lent .long;
-        values-fit = lent .fits;
-        some = range .0;
-        short = range .1;
-        words = words-now system mode d kind vs ok clear v;
-      }
-
-  owing-as : adding (d .writer) (d .now .words) kind vs .answer ≡ Unfinished → (c n j : ℕ)
-      → adding (d .writer) (d .now .words) kind vs .state .rest ≡ Part c n j
-      → Owing mode (addedBy Unfinished (adding (d .writer) (d .now .words) kind vs) d kind vs) c n j
-  owing-as e c n j r =
-      let desk = addedBy Unfinished (adding (d .writer) (d .now .words) kind vs) d kind vs in
-      let same : Part kind (length vs) (laidOf (d .writer .rest) + k) ≡ Part c n j = sym (rest-left (d .writer) (d .now .words) kind vs clear e) ∙ r in
-      subst (λ (i : ℕ). Owing mode desk c n i) (ap laidOf same)
-      (subst (λ (m : ℕ). Owing mode desk c m (laidOf (d .writer .rest) + k)) (ap valuesOf same)
-      (subst (λ (h : ℕ). Owing mode desk h (length vs) (laidOf (d .writer .rest) + k)) (ap kindOf same) (owing-now e)))
+  finished-ok e = laid-ok _ [] [] (finished-owes mode d kind vs (ok .owes) clear e)
 
   pub unfinished-ok : adding (d .writer) (d .now .words) kind vs .answer ≡ Unfinished
       → DeskOk system mode (addedBy Unfinished (adding (d .writer) (d .now .words) kind vs) d kind vs)
-  unfinished-ok e =
-      laid-ok (d .now .blocks) (valuesNow d vs) (d .pieces ++ (pieceNow d kind vs ∷ []))
-      (λ r. absurd (true-false (sym (ap isPart (rest-left (d .writer) (d .now .words) kind vs clear e)) ∙ ap isPart r))) (owing-as e)
+  unfinished-ok e = laid-ok (d .now .blocks) (valuesNow d vs) (d .pieces ++ (pieceNow d kind vs ∷ [])) (unfinished-owes mode d kind vs (ok .owes) clear e)

@@ -28,7 +28,7 @@ use Rattle.writer.specs.Closing.{closing}
 use Rattle.writer.specs.Course.{joined}
 use Rattle.writer.proofs.Keeps.{open-keeps, close-keeps, add-stays, add-leaves}
 use Rattle.demands.specs.Sending.{opens, adds, closes, Piece, Complete, Sent, Desk, openedBy, with, pieceNow, addedBy, closedBy, after, joinedPieces}
-use Rattle.demands.proofs.DeskOk.{Owing, DeskOk}
+use Rattle.demands.proofs.DeskOk.{Owes, DeskOk}
 
 -- ---- joined
 pub joined-pieces-append : (ps qs : List Piece) → joinedPieces (ps ++ qs) ≡ joinedPieces ps ++ joinedPieces qs
@@ -113,35 +113,43 @@ module _ (d : Desk) where
 -- ---- what holds of the desk, by the system and the mode of its state
 pub own : (system mode : ℕ) (d : Desk) → DeskOk system mode d → DeskOk (d .writer .system) (d .writer .mode) d
 own system mode d ok =
-    subst (λ (s : ℕ). DeskOk s (d .writer .mode) d) (sym (ok .of-system)) (subst (λ (m : ℕ). DeskOk system m d) (sym (ok .of-mode)) ok)
+    subst (λ (s : ℕ). DeskOk s (d .writer .mode) d) (sym (ok .of-system)) (subst (λ (m : ℕ). DeskOk system m d) (sym (ok .owes .of-mode)) ok)
 
 pub by-own : (system mode : ℕ) (d : Desk) (P : ℕ → ℕ → Type 0) → DeskOk system mode d → P (d .writer .system) (d .writer .mode) → P system mode
-by-own system mode d P ok p = subst (λ (s : ℕ). P s mode) (ok .of-system) (subst (λ (m : ℕ). P (d .writer .system) m) (ok .of-mode) p)
+by-own system mode d P ok p = subst (λ (s : ℕ). P s mode) (ok .of-system) (subst (λ (m : ℕ). P (d .writer .system) m) (ok .owes .of-mode) p)
 
 -- with no block unfinished nothing is owing, and so in a fixed line
 pub none-left : (system mode : ℕ) (d : Desk) → DeskOk system mode d → isPart (d .writer .rest) ≡ false → d .pieces ≡ []
 none-left system mode d ok e = by (d .writer .rest) refl
   where
     by : (r : Rest) → d .writer .rest ≡ r → d .pieces ≡ []
-    by Whole h = ok .none-owing h
+    by Whole h = ok .owes .none-owing h
     by (Part k n j) h = absurd (true-false (sym (ap isPart h) ∙ e))
 
 pub fixed-none : (system mode : ℕ) (d : Desk) → DeskOk system mode d → isVariable (d .writer .settings .block) ≡ false → d .pieces ≡ []
 fixed-none system mode d ok v = by (d .writer .rest) refl
   where
     by : (r : Rest) → d .writer .rest ≡ r → d .pieces ≡ []
-    by Whole h = ok .none-owing h
-    by (Part k n j) h = absurd (true-false (sym (ok .owing k n j h .variable) ∙ v))
+    by Whole h = ok .owes .none-owing h
+    by (Part k n j) h = absurd (true-false (sym (ok .owes .owing k n j h .variable) ∙ v))
 
--- an unfinished block stays where the block type of the settings does
-pub owing-stays : (mode : ℕ) (d : Desk) (w : Writer) (s : Sent) (c kind n j : ℕ) → w .settings .block ≡ d .writer .settings .block → Owing mode d kind n j
-    → Owing mode (record { writer = w; now = s; closed = c; values = d .values; pieces = d .pieces }) kind n j
-owing-stays mode d w s c kind n j e o =
+-- what is owed stays where the mode and the unfinished block do, and the block type with it; whatever becomes of the line
+pub owes-stays : (mode : ℕ) (d : Desk) (w : Writer) (s : Sent) (c : ℕ) → w .mode ≡ d .writer .mode → w .rest ≡ d .writer .rest
+    → (isPart (d .writer .rest) ≡ true → w .settings .block ≡ d .writer .settings .block) → Owes mode d
+    → Owes mode (record { writer = w; now = s; closed = c; values = d .values; pieces = d .pieces })
+owes-stays mode d w s c m rest block ow =
     record {
-      variable = ap isVariable e ∙ o .variable;
-      long = o .long;
-      values-fit = o .values-fit;
-      some = o .some;
-      short = o .short;
-      words = o .words;
+      of-mode = m ∙ ow .of-mode;
+      none-owing = λ r. ow .none-owing (sym rest ∙ r);
+      owing = λ kind n j r.
+          let part = sym rest ∙ r in
+          let o = ow .owing kind n j part in
+          record {
+            variable = ap isVariable (block (ap isPart part)) ∙ o .variable;
+            long = o .long;
+            values-fit = o .values-fit;
+            some = o .some;
+            short = o .short;
+            words = o .words;
+          };
     }

@@ -32,7 +32,7 @@ use Rattle.writer.proofs.Writing.{closed-line, closed-accepted}
 use Rattle.demands.specs.Sending.{Desk, closedBy}
 use Rattle.demands.proofs.DeskOk.{AllLong, OpenNow, DeskOk}
 use Rattle.demands.proofs.Outcomes.{Closes}
-use Rattle.demands.proofs.DeskCalls.{owing-stays}
+use Rattle.demands.proofs.DeskCalls.{owes-stays}
 
 -- ---- an area has a word, with either flag
 payload-some : (system : ℕ) → isSystem system ≡ true → 3 ≤ systemOf system .payload
@@ -147,13 +147,10 @@ pub closed-ok : (system mode : ℕ) (d : Desk) → DeskOk system mode d → clos
 closed-ok system mode d ok done =
     let e = leaves system mode d ok done in
     let x = closing (d .writer) (d .now .words) in
-    let rest : x .state .rest ≡ d .writer .rest = ap (λ (y : Left). y .state .rest) e in
     record {
       of-system = ap (λ (y : Left). y .state .system) e ∙ ok .of-system;
-      of-mode = ap (λ (y : Left). y .state .mode) e ∙ ok .of-mode;
       possible = close-possible (d .writer) (d .now .words) (ok .possible);
       opened = λ at. absurd (true-false (sym at ∙ ap (λ (y : Left). isAt (y .state .place)) e));
-      none-owing = λ r. ok .none-owing (sym rest ∙ r);
-      owing = λ kind n j r.
-          owing-stays mode d (x .state) _ (suc (d .closed)) kind n j (ap (λ (y : Left). y .state .settings .block) e) (ok .owing kind n j (sym rest ∙ r));
+      owes = owes-stays mode d (x .state) _ (suc (d .closed)) (ap (λ (y : Left). y .state .mode) e) (ap (λ (y : Left). y .state .rest) e)
+          (λ z. ap (λ (y : Left). y .state .settings .block) e) (ok .owes);
     }

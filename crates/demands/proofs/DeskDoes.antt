@@ -22,7 +22,7 @@ use Rattle.writer.proofs.Pieces.{finished-clear, unfinished-clear}
 use Rattle.writer.proofs.Writing.{Open}
 use Rattle.demands.specs.Sending.{Call, opens, adds, closes, Sent, Desk, with, openedBy, addedBy, closedBy, sendsBy, after, sends}
 use Rattle.demands.proofs.DeskOk.{DeskOk}
-use Rattle.demands.proofs.DeskCalls.{moves, after-opened, open-refused-same, after-finished, after-unfinished, add-refused-same, after-closed, close-refused-same, owing-stays}
+use Rattle.demands.proofs.DeskCalls.{moves, after-opened, open-refused-same, after-finished, after-unfinished, add-refused-same, after-closed, close-refused-same, owes-stays}
 
 -- Quiet: the call lays nothing and leaves the unfinished block. The state and the words of the line opened last may change, but the line is still
 -- what it was opened with and what was laid on it. `told`: with no line open the last number may change.
@@ -87,7 +87,6 @@ pub quiet-ok : (system mode : ℕ) (told : Bool) (d : Desk) (w : Writer) (ws : L
 quiet-ok system mode told d w ws q ok =
     record {
       of-system = q .of-system ∙ ok .of-system;
-      of-mode = q .of-mode ∙ ok .of-mode;
       possible = q .possible (ok .possible);
       opened = λ at.
           let was = sym (ap isAt (q .place)) ∙ at in
@@ -98,6 +97,5 @@ quiet-ok system mode told d w ws q ok =
             last-is = q .open-last was ∙ o .last-is;
             placed = o .placed;
           };
-      none-owing = λ r. ok .none-owing (sym (q .rest) ∙ r);
-      owing = λ kind n j r. owing-stays mode d w _ (d .closed) kind n j (ap (λ (t : Settings). t .block) (q .settings)) (ok .owing kind n j (sym (q .rest) ∙ r));
+      owes = owes-stays mode d w _ (d .closed) (q .of-mode) (q .rest) (λ z. ap (λ (t : Settings). t .block) (q .settings)) (ok .owes);
     }

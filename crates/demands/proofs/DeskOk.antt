@@ -53,10 +53,14 @@ pub record Owing (mode : ℕ) (d : Desk) (kind n j : ℕ) : Type 0 where
   pub short : j ≤ n + 6
   pub words : joinedPieces (d .pieces) ≡ take j (blockWords mode kind (d .values))
 
-pub record DeskOk (system mode : ℕ) (d : Desk) : Type 0 where
-  pub of-system : d .writer .system ≡ system
+-- what is owed: nothing, or an unfinished block. Nothing is asked of a line.
+pub record Owes (mode : ℕ) (d : Desk) : Type 0 where
   pub of-mode : d .writer .mode ≡ mode
-  pub possible : impossible (d .writer) ≡ false
-  pub opened : isAt (d .writer .place) ≡ true → OpenNow system mode d
   pub none-owing : d .writer .rest ≡ Whole → d .pieces ≡ []
   pub owing : (kind n j : ℕ) → d .writer .rest ≡ Part kind n j → Owing mode d kind n j
+
+pub record DeskOk (system mode : ℕ) (d : Desk) : Type 0 where
+  pub of-system : d .writer .system ≡ system
+  pub possible : impossible (d .writer) ≡ false
+  pub opened : isAt (d .writer .place) ≡ true → OpenNow system mode d
+  pub owes : Owes mode d

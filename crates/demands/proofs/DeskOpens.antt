@@ -14,7 +14,6 @@ use Rattle.line.proofs.SettingsLaws.{same-block}
 use Rattle.course.specs.declared.Place.{Place}
 use Rattle.course.specs.declared.Place.the-variants.{Shut, At}
 use Rattle.course.specs.Course.{isAt}
-use Rattle.writer.specs.declared.state.Rest.the-variants.{Part}
 use Rattle.writer.specs.declared.state.Answer.the-variants.{Done}
 use Rattle.writer.specs.State.{isPart}
 use Rattle.writer.specs.Answers.{Left, left}
@@ -26,7 +25,7 @@ use Rattle.writer.proofs.Writing.{opened-line}
 use Rattle.demands.specs.Sending.{Desk, openedBy}
 use Rattle.demands.proofs.DeskOk.{DeskOk}
 use Rattle.demands.proofs.Outcomes.{Opens}
-use Rattle.demands.proofs.DeskCalls.{own, by-own, owing-stays}
+use Rattle.demands.proofs.DeskCalls.{own, by-own, owes-stays}
 
 -- ---- what 20 lets pass
 is-shut : (p : Place) → isAt p ≡ false → p ≡ Shut
@@ -62,11 +61,9 @@ module _ (d : Desk) (f v : Bool) (n : ℕ) (t : Settings) (lent : List ℕ) (don
   own-opened : Held t → DeskOk (d .writer .system) (d .writer .mode) d
       → DeskOk (d .writer .system) (d .writer .mode) (openedBy Done (opening (d .writer) f v n t lent) d f v n t)
   own-opened held ok =
-      let rest : opening (d .writer) f v n t lent .state .rest ≡ d .writer .rest = own-opens .rest in
       let line = opened-line (d .writer) f v n t lent done in
       record {
         of-system = line .of-system;
-        of-mode = line .of-mode;
         possible = open-possible (d .writer) f v n t lent (ok .possible);
         opened = λ at. record {
           is-open = line;
@@ -74,11 +71,8 @@ module _ (d : Desk) (f v : Bool) (n : ℕ) (t : Settings) (lent : List ℕ) (don
           last-is = own-opens .last;
           placed = λ fixed. tt;
         };
-        none-owing = λ r. ok .none-owing (sym rest ∙ r);
-        owing = λ kind m j r.
-            let part : d .writer .rest ≡ Part kind m j = sym rest ∙ r in
-            owing-stays (d .writer .mode) d (opening (d .writer) f v n t lent .state) _ (d .closed) kind m j
-            (ap (λ (u : Settings). u .block) (own-opens .settings) ∙ same-block t (d .writer .settings) (own-opens .goes-on (ap isPart part) .0)) (ok .owing kind m j part);
+        owes = owes-stays (d .writer .mode) d (opening (d .writer) f v n t lent .state) _ (d .closed) (line .of-mode) (own-opens .rest)
+            (λ part. ap (λ (u : Settings). u .block) (own-opens .settings) ∙ same-block t (d .writer .settings) (own-opens .goes-on part .0)) (ok .owes);
       }
 
 -- ---- an accepted opening

@@ -66,11 +66,9 @@ module _ (w : Writer) (us : List ℕ) (possible : impossible w ≡ false) (value
   standing-ok shut =
       record {
         of-system = refl;
-        of-mode = refl;
         possible = possible;
         opened = λ at. absurd (true-false (sym at ∙ ap isAt shut));
-        none-owing = λ r. ap (λ (x : Rest). laidBefore (w .mode) x us) r;
-        owing = owing-part;
+        owes = record { of-mode = refl; none-owing = λ r. ap (λ (x : Rest). laidBefore (w .mode) x us) r; owing = owing-part };
       }
 
   pub standing-some : All HasWord (laidBefore (w .mode) (w .rest) us)
