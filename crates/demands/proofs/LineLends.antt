@@ -274,21 +274,20 @@ from-place st line room hs st′ room′ (more {hs = ks} h k) q at fit =
 
 -- ---- a line from its start on
 -- all places are left, and all words
+all-left : (st : Reader) → placesLeft st 0 ≡ placesOf (systemOf (st .system) .payload) (st .settings .block)
+all-left st = omega (arith, zero-div (sizeOf (st .settings .block)))
+
 rest-out : (st : Reader) (line room : List ℕ)
     → restOut st 0 line room ≡ areaOut (systemOf (st .system) .payload) (st .mode) (st .settings) (now (st .phase) room) (blockPart (st .system) (st .settings) line)
 unfolding restOut
 rest-out st line room =
-    let block = st .settings .block in
-    let all : placesLeft st 0 ≡ placesOf (systemOf (st .system) .payload) block = omega (arith, zero-div (sizeOf block)) in
-    ap₂ (λ (n : ℕ) (ws : List ℕ). leftOut (st .mode) block n (now (st .phase) room) ws) all (words-first st line)
+    ap₂ (λ (n : ℕ) (ws : List ℕ). leftOut (st .mode) (st .settings .block) n (now (st .phase) room) ws) (all-left st) (words-first st line)
 
 rest-to : (st : Reader) (line room : List ℕ)
     → restTo st 0 line room ≡ areaTo (systemOf (st .system) .payload) (st .mode) (st .settings) (now (st .phase) room) (blockPart (st .system) (st .settings) line)
 unfolding restTo
 rest-to st line room =
-    let block = st .settings .block in
-    let all : placesLeft st 0 ≡ placesOf (systemOf (st .system) .payload) block = omega (arith, zero-div (sizeOf block)) in
-    ap₂ (λ (n : ℕ) (ws : List ℕ). leftTo (st .mode) block n (now (st .phase) room) ws) all (words-first st line)
+    ap₂ (λ (n : ℕ) (ws : List ℕ). leftTo (st .mode) (st .settings .block) n (now (st .phase) room) ws) (all-left st) (words-first st line)
 
 -- a reader with no line begun, as an ear
 abbrev pub earOf : Reader → List ℕ → Ear
