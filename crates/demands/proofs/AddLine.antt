@@ -1,16 +1,14 @@
--- An addition on an open line: what the reader hears of the line grows by the block that it finishes, if all of that block was kept.
+-- An addition on an open line: what the ear hears of the line grows by the block that it finishes, if all of that block was kept.
 -- Assumes nothing.
-use Prim.Native.Nat.{ℕ, suc, _+_, _≤_}
+use Prim.Native.Nat.{ℕ, suc, _≤_}
 use mathlib.Core.Bool.{Bool, true, false}
-use mathlib.Core.List.{List, [], _∷_, _++_, map, append-nil}
+use mathlib.Core.List.{List, [], _∷_, _++_, append-nil}
 use mathlib.Core.Path.{_≡_, refl, sym, ap, ap₂, _∙_, subst}
 use native.Mathlib.Omega.{arith}
 use lib.ListN.{length, length-map}
 use Rattle.lists.specs.Tests.{pick}
 use Rattle.lists.proofs.Tests.{true-false, pick-true}
-use Rattle.line.specs.Fixed.{isVariable}
-use Rattle.course.specs.declared.Last.{Last}
-use Rattle.course.specs.declared.Place.the-variants.{Shut, At}
+use Rattle.course.specs.declared.Place.the-variants.{Shut}
 use Rattle.course.specs.Course.{isAt}
 use Rattle.words.specs.Modes.{wordOf}
 use Rattle.writer.specs.declared.state.Rest.{Rest}
@@ -22,21 +20,20 @@ use Rattle.writer.specs.Adding.{addFault, room, adding}
 use Rattle.writer.specs.Block.{fixedWords}
 use Rattle.writer.specs.Course.{joined, pieceOf}
 use Rattle.writer.proofs.Keeps.{add-leaves}
-use Rattle.writer.proofs.Refusals.{can-add}
-use Rattle.reader.specs.declared.state.Reader.{Reader}
-use Rattle.demands.specs.Sending.{Block, Complete, Desk, valuesNow, pieceNow, completeNow, addedBy}
+use Rattle.demands.specs.Sending.{Block, Piece, Complete, Desk, valuesNow, pieceNow, completeNow, addedBy}
 use Rattle.demands.specs.Hearing.{Heard, is-block}
 use Rattle.demands.specs.Damage.{allOn, survivors}
-use Rattle.demands.proofs.Run.{Now, now, idle, runTo, runOut, placeOut, placesTo}
+use Rattle.demands.proofs.Run.{Now, now, runTo, runOut, placeOut, placesTo}
 use Rattle.demands.proofs.RunLaws.{run-to-append, run-out-append, run-room}
 use Rattle.demands.proofs.BlockRun.{Shaped}
 use Rattle.demands.proofs.PlaceRun.{place-given, place-room, places-out-append, places-to-append}
-use Rattle.demands.proofs.LineRun.{startNow}
+use Rattle.demands.proofs.Ear.{Ear, startNow}
 use Rattle.demands.proofs.DeskOk.{DeskOk}
-use Rattle.demands.proofs.Outcomes.{Varies, Fills}
-use Rattle.demands.proofs.DeskCalls.{joined-append}
+use Rattle.demands.proofs.Outcomes.{Varies, Fills, Adds}
+use Rattle.demands.proofs.DeskCalls.{joined-append, laidDesk}
+use Rattle.demands.proofs.DeskAdds.{adds-say}
 use Rattle.demands.proofs.DeskAdded.{rest-whole}
-use Rattle.demands.proofs.Ahead.{blocksHeard, Matches, ByWords, ByPlaces, Ahead}
+use Rattle.demands.proofs.Ahead.{blocksHeard, Matches, ByWords, ByPlaces, Inside, Ahead}
 use Rattle.demands.proofs.StartLine.{matches-idle}
 use Rattle.demands.proofs.PieceRun.{all-one, all-lost, piece-ends, idle-again, piece-silent, matches-on}
 
@@ -68,23 +65,32 @@ one-more keeps bs b = ap blocksHeard (survivors-append keeps bs (b ∷ [])) ∙ 
 still-open : (d : Desk) (kind : ℕ) (vs : List ℕ) → addFault (d .writer) (length (d .now .words)) kind vs ≡ 0 → adding (d .writer) (d .now .words) kind vs .state .place ≡ Shut → ⊥
 still-open d kind vs ok e = true-false (ap isAt (sym (ap (λ (y : Added). y .state .place) (add-leaves (d .writer) (d .now .words) kind vs ok)) ∙ e))
 
-module _ (system mode : ℕ) (keeps : ℕ → Bool) (before : Last) (gone : Bool) (d : Desk) (st : Reader) (room : List ℕ) (kind : ℕ) (vs : List ℕ)
-    (dk : DeskOk system mode d) (ok : addFault (d .writer) (length (d .now .words)) kind vs ≡ 0) (at : isAt (d .writer .place) ≡ true)
-    (a : Ahead system mode keeps before gone d st room) where
+module _ (system mode cap : ℕ) (keeps : ℕ → Bool) (told gone : Bool) (d : Desk) (ear : Ear) (kind : ℕ) (vs : List ℕ)
+    (dk : DeskOk system mode d) (clear : addFault (d .writer) (length (d .now .words)) kind vs ≡ 0) (room-for : length vs ≤ most → length vs ≤ cap)
+    (a : Ahead system mode cap keeps told gone d ear) where
   abbrev piece : List ℕ
   piece = pieceOf (d .writer) (d .now .words) kind vs
+
+  says : Adds mode d kind vs
+  says = adds-say system mode d kind vs dk clear
+
+  fit : length vs ≤ cap
+  fit = room-for (says .number)
 
   -- where something was lost of it, something was laid of it
   was-begun : allOn keeps (d .pieces) ≡ false → 1 ≤ laidOf (d .writer .rest)
   was-begun e = by (d .writer .rest) refl
     where
       by : (r : Rest) → d .writer .rest ≡ r → 1 ≤ laidOf (d .writer .rest)
-      by Whole h = absurd (true-false (sym (ap (allOn keeps) (dk .none-owing h)) ∙ e))
-      by (Part k n j) h = subst (λ (i : ℕ). 1 ≤ i) (sym (ap laidOf h)) (dk .owing k n j h .some)
+      by Whole h = absurd (true-false (sym (ap (allOn keeps) (dk .owes .none-owing h)) ∙ e))
+      by (Part k n j) h = subst (λ (i : ℕ). 1 ≤ i) (sym (ap laidOf h)) (dk .owes .owing k n j h .some)
 
-  module _ (q : Now) (y : Varies mode d kind vs) (w : ByWords mode keeps d q) where
+  module _ (q : Now) (y : Varies mode d kind vs) (w : ByWords mode cap keeps d q) where
     shaped : Shaped mode kind (valuesNow d vs)
     shaped = record { small = y .small; at-most = y .at-most; values-fit = y .values-fit }
+
+    fit-now : length (valuesNow d vs) ≤ cap
+    fit-now = omega (arith, y .length-is, fit)
 
     mid : Now
     mid = runTo mode q (joined (d .now .pieces))
@@ -101,32 +107,32 @@ module _ (system mode : ℕ) (keeps : ℕ → Bool) (before : Last) (gone : Bool
     run-to = ap (runTo mode q) (joined-one (d .now .pieces) piece) ∙ run-to-append mode q (joined (d .now .pieces)) piece
 
     words-end : keeps (d .closed) ≡ true → adding (d .writer) (d .now .words) kind vs .answer ≡ Finished
-        → ByWords mode keeps (addedBy Finished (adding (d .writer) (d .now .words) kind vs) d kind vs) q
+        → ByWords mode cap keeps (addedBy Finished (adding (d .writer) (d .now .words) kind vs) d kind vs) q
     unfolding mid
     words-end k e =
-        let out = piece-ends mode kind (valuesNow d vs) shaped keeps (d .pieces) mid (w .matches) (laidOf (d .writer .rest)) (y .k) (y .before) piece (y .piece) was-begun (y .some) (y .ends e) in
-        let is-idle = idle-again mode kind (valuesNow d vs) shaped keeps (d .pieces) mid (w .matches) (laidOf (d .writer .rest)) (y .k) (y .before) piece (y .piece) was-begun (y .some) (y .ends e) in
+        let out = piece-ends mode cap kind (valuesNow d vs) shaped fit-now keeps (d .pieces) mid (w .matches) (laidOf (d .writer .rest)) (y .k) (y .before) piece (y .piece) was-begun (y .some) (y .ends e) in
+        let is-idle = idle-again mode cap kind (valuesNow d vs) shaped fit-now keeps (d .pieces) mid (w .matches) (laidOf (d .writer .rest)) (y .k) (y .before) piece (y .piece) was-begun (y .some) (y .ends e) in
         record {
           heard = run-out
               ∙ ap (λ (l : List Heard). blocksHeard (survivors keeps (d .now .blocks)) ++ l)
               (out ∙ ap (λ (b : Bool). blocksHeard (pick b (completeNow d kind vs .block ∷ []) [])) (sym (all-one keeps (d .pieces) (pieceNow d kind vs) k)))
               ∙ sym (one-more keeps (d .now .blocks) (completeNow d kind vs));
-          matches = subst (Matches mode keeps []) (sym run-to)
-              (matches-idle mode keeps [] (runTo mode mid piece) refl is-idle (run-room mode mid piece ∙ w .matches .long));
+          matches = subst (Matches mode cap keeps []) (sym run-to)
+              (matches-idle mode cap keeps [] (runTo mode mid piece) refl is-idle (run-room mode mid piece ∙ w .matches .long));
         }
 
     words-on : keeps (d .closed) ≡ true → adding (d .writer) (d .now .words) kind vs .answer ≡ Unfinished
-        → ByWords mode keeps (addedBy Unfinished (adding (d .writer) (d .now .words) kind vs) d kind vs) q
+        → ByWords mode cap keeps (addedBy Unfinished (adding (d .writer) (d .now .words) kind vs) d kind vs) q
     unfolding mid
     words-on k e =
-        let out = piece-silent mode kind (valuesNow d vs) shaped keeps (d .pieces) mid (w .matches) (laidOf (d .writer .rest)) (y .k) (y .before) piece (y .piece) was-begun (y .goes-on e) in
-        let m = matches-on mode kind (valuesNow d vs) shaped keeps (d .pieces) mid (w .matches) (laidOf (d .writer .rest)) (y .k) (y .before) piece (y .piece) was-begun (y .goes-on e) (pieceNow d kind vs) k refl in
+        let out = piece-silent mode cap kind (valuesNow d vs) shaped fit-now keeps (d .pieces) mid (w .matches) (laidOf (d .writer .rest)) (y .k) (y .before) piece (y .piece) was-begun (y .goes-on e) in
+        let m = matches-on mode cap kind (valuesNow d vs) shaped fit-now keeps (d .pieces) mid (w .matches) (laidOf (d .writer .rest)) (y .k) (y .before) piece (y .piece) was-begun (y .goes-on e) (pieceNow d kind vs) k refl in
         record {
           heard = run-out ∙ ap (λ (l : List Heard). blocksHeard (survivors keeps (d .now .blocks)) ++ l) out ∙ append-nil _;
-          matches = subst (Matches mode keeps (d .pieces ++ (pieceNow d kind vs ∷ []))) (sym run-to) m;
+          matches = subst (Matches mode cap keeps (d .pieces ++ (pieceNow d kind vs ∷ []))) (sym run-to) m;
         }
 
-  module _ (q : Now) (y : Fills mode d kind vs) (w : ByPlaces mode keeps d q) where
+  module _ (q : Now) (y : Fills mode d kind vs) (w : ByPlaces mode cap keeps d q) where
     behind : List ℕ
     behind = placesTo mode (q .room) (d .now .pieces)
 
@@ -134,7 +140,7 @@ module _ (system mode : ℕ) (keeps : ℕ → Bool) (before : Last) (gone : Bool
     unfolding behind fixedWords
     piece-long =
         let l : length piece ≡ suc (length vs) = ap length (y .piece) ∙ ap suc (length-map vs (wordOf mode)) in
-        omega (arith, can-add (d .writer) (d .now .words) kind vs ok .number, w .long)
+        omega (arith, fit, w .long)
 
     place-heard : keeps (d .closed) ≡ true → placeOut mode piece behind ≡ blocksHeard (pick (allOn keeps (completeNow d kind vs .pieces)) (completeNow d kind vs .block ∷ []) [])
     place-heard k =
@@ -143,7 +149,7 @@ module _ (system mode : ℕ) (keeps : ℕ → Bool) (before : Last) (gone : Bool
         ∙ ap (λ (l : List ℕ). blocksHeard (record { kind = kind; values = l } ∷ [])) (sym (y .values-are))
         ∙ sym (ap blocksHeard (pick-true (completeNow d kind vs .block ∷ []) [] (all-one keeps (d .pieces) (pieceNow d kind vs) k ∙ ap (allOn keeps) (y .none-before))))
 
-    places-end : keeps (d .closed) ≡ true → ByPlaces mode keeps (addedBy Finished (adding (d .writer) (d .now .words) kind vs) d kind vs) q
+    places-end : keeps (d .closed) ≡ true → ByPlaces mode cap keeps (addedBy Finished (adding (d .writer) (d .now .words) kind vs) d kind vs) q
     unfolding behind
     places-end k = record {
       heard = places-out-append mode (q .room) (d .now .pieces) (piece ∷ [])
@@ -154,42 +160,31 @@ module _ (system mode : ℕ) (keeps : ℕ → Bool) (before : Last) (gone : Bool
     }
 
   -- ---- the whole
-  -- what the line's kind says of the addition
-  pub record Says : Type 0 where
-    pub varies : isVariable (d .now .settings .block) ≡ true → Varies mode d kind vs
-    pub fills : isVariable (d .now .settings .block) ≡ false → Fills mode d kind vs
-
-  pub finished-ahead : Says → adding (d .writer) (d .now .words) kind vs .answer ≡ Finished
-      → Ahead system mode keeps before gone (addedBy Finished (adding (d .writer) (d .now .words) kind vs) d kind vs) st room
-  finished-ahead s e = record {
+  laid-ahead : (bs : List Complete) (us : List ℕ) (ps : List Piece)
+      → (keeps (d .closed) ≡ true → (q : Now) → Inside mode cap keeps d q → Inside mode cap keeps (laidDesk d kind vs bs us ps) q)
+      → (keeps (d .closed) ≡ false → isPart (adding (d .writer) (d .now .words) kind vs .state .rest) ≡ true → allOn keeps ps ≡ false)
+      → Ahead system mode cap keeps told gone (laidDesk d kind vs bs us ps) ear
+  laid-ahead bs us ps on lost = record {
     listens = a .listens;
-    between = λ z. absurd (still-open d kind vs ok z);
-    inside = λ z k h.
-        let q = startNow st (d .now .number) (d .now .settings) room in
-        let i = a .inside at k h in
-        record {
-          by-words = λ v. words-end q (s .varies v) (i .by-words v) k e;
-          by-places = λ v. places-end q (s .fills v) (i .by-places v) k;
-        };
-    quiet = λ z g. a .quiet at g;
-    missing = λ k p z l part. absurd (true-false (sym part ∙ ap isPart (rest-whole system mode d kind vs dk ok e)));
+    between = λ z. absurd (still-open d kind vs clear z);
+    inside = λ z k h. on k (startNow system mode ear (d .now .number) (d .now .settings)) (a .inside (says .begun) k h);
+    none-dropped = λ z h g. a .none-dropped (says .begun) h g;
+    missing = λ k p z least part. lost k part;
   }
 
-  pub unfinished-ahead : Says → adding (d .writer) (d .now .words) kind vs .answer ≡ Unfinished
-      → Ahead system mode keeps before gone (addedBy Unfinished (adding (d .writer) (d .now .words) kind vs) d kind vs) st room
-  unfinished-ahead s e = record {
-    listens = a .listens;
-    between = λ z. absurd (still-open d kind vs ok z);
-    inside = λ z k h.
-        let q = startNow st (d .now .number) (d .now .settings) room in
-        let i = a .inside at k h in
-        record {
-          by-words = λ v. words-on q (s .varies v) (i .by-words v) k e;
-          by-places = λ v. absurd (two-answers (sym (s .fills v .finished) ∙ e));
-        };
-    quiet = λ z g. a .quiet at g;
-    missing = λ k p z l part. all-lost keeps (d .pieces) (pieceNow d kind vs) k;
-  }
+  pub finished-ahead : adding (d .writer) (d .now .words) kind vs .answer ≡ Finished
+      → Ahead system mode cap keeps told gone (addedBy Finished (adding (d .writer) (d .now .words) kind vs) d kind vs) ear
+  finished-ahead e =
+      laid-ahead (d .now .blocks ++ (completeNow d kind vs ∷ [])) [] []
+      (λ k q i. record { by-words = λ v. words-end q (says .varies v) (i .by-words v) k e; by-places = λ v. places-end q (says .fills v) (i .by-places v) k })
+      (λ k part. absurd (true-false (sym part ∙ ap isPart (rest-whole mode d kind vs (dk .owes) clear e))))
+
+  pub unfinished-ahead : adding (d .writer) (d .now .words) kind vs .answer ≡ Unfinished
+      → Ahead system mode cap keeps told gone (addedBy Unfinished (adding (d .writer) (d .now .words) kind vs) d kind vs) ear
+  unfinished-ahead e =
+      laid-ahead (d .now .blocks) (valuesNow d vs) (d .pieces ++ (pieceNow d kind vs ∷ []))
+      (λ k q i. record { by-words = λ v. words-on q (says .varies v) (i .by-words v) k e; by-places = λ v. absurd (two-answers (sym (says .fills v .finished) ∙ e)) })
+      (λ k part. all-lost keeps (d .pieces) (pieceNow d kind vs) k)
     where
       two-answers : Finished ≡ Unfinished → ⊥
       two-answers h = let z : _≡_ {A = ℕ} 0 1 = cc in omega arith

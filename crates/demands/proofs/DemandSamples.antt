@@ -1,13 +1,13 @@
 -- Instances of demands 2 and 3, computed: what two courses of calls send, and what every fresh reader hears of it by the theorems.
 -- Assumes nothing.
-use Prim.Native.Nat.{ℕ, _<_, _+_}
+use Prim.Native.Nat.{ℕ, _<_}
 use mathlib.Core.Bool.{true, false}
-use mathlib.Core.List.{List, [], _∷_, _++_, map}
-use mathlib.Core.Path.{_≡_, refl, sym, ap, _∙_}
+use mathlib.Core.List.{List, [], _∷_, map}
+use mathlib.Core.Path.{_≡_, refl, sym, _∙_}
 use native.Mathlib.Omega.{arith}
 use lib.Dec.{lit<}
 use lib.IntN.{pos}
-use lib.ListN.{length, replicate, length-append, length-replicate}
+use lib.ListN.{length, replicate, length-replicate}
 use Rattle.lists.specs.Tests.{pick}
 use Rattle.words.specs.Forms.{byteWord}
 use Rattle.words.specs.Modes.{isMode, values, wordOf}
@@ -32,9 +32,10 @@ use Rattle.writer.specs.Course.{pieceOf}
 use Rattle.reader.specs.declared.jump.Jump.the-variants.{Unknown as NotKnown, Known}
 use Rattle.reader.specs.State.{capacity, fresh}
 use Rattle.reader.specs.Jump.{folded}
+use Rattle.demands.specs.All.{All}
 use Rattle.demands.specs.Sending.{Call, opens, adds, closes, Block, Piece, Complete, Sent, Desk, start, after, sends, sentBy, sentFresh, blocksOf}
 use Rattle.demands.specs.Hearing.{Heard, is-begun, is-block, is-end, Reads, handedOut}
-use Rattle.demands.specs.Damage.{Fate, kept, removed, replaced, remain, Refusing, RunsBelow, keptAt, survivors}
+use Rattle.demands.specs.Damage.{Fate, kept, removed, replaced, remain, RefusedIfReplaced, longestRun, keptAt, survivors}
 use Rattle.demands.specs.Demand2.{givenBack}
 use Rattle.demands.specs.Demand3.{Consecutive, Transmission}
 use Rattle.demands.proofs.Demand2Holds.{demand-2}
@@ -190,20 +191,17 @@ pub five-survivors : survivors (keptAt fates) (blocksOf (sentFresh 0 9 five-line
 unfolding sent five-lines fates
 five-survivors = refl
 
--- a run of 525 does not fit into five
-no-frame-removed : RunsBelow 525 fates
+one-removed : longestRun fates < 525
 unfolding fates
-no-frame-removed before behind e =
-    let a : length before + length (replicate 525 removed ++ behind) ≡ 5 = sym (length-append before (replicate 525 removed ++ behind)) ∙ sym (ap length e) in
-    omega (arith, a, length-append (replicate 525 removed) behind, length-replicate 525 removed)
+one-removed = lit< tt
 
 pub refused-3 : lineFault 0 9 (replicate 1716 0) ≡ 3
 unfolding pick isSystem isMode timingWords timed headFaults faults fitsLength lineFault
 refused-3 = refl
 
-refused-is : Refusing 0 9 fates
+refused-is : All (RefusedIfReplaced 0 9) fates
 unfolding fates blank
-refused-is = (length-replicate {A = ℕ} 1716 0, ((λ e. let n : _≡_ {A = ℕ} 3 0 = sym refused-3 ∙ e in omega (arith, n)), tt))
+refused-is = (tt, (tt, (tt, ((length-replicate {A = ℕ} 1716 0, λ e. let n : _≡_ {A = ℕ} 3 0 = sym refused-3 ∙ e in omega (arith, n)), (tt, tt)))))
 
 consecutive : Consecutive 525 (sentFresh 0 9 five-lines)
 unfolding sent five-lines
@@ -214,7 +212,7 @@ unfolding sent five-lines fates
 five-long = refl
 
 pub transmission : Transmission 0 9 525 five-lines fates
-transmission = record { numbers = consecutive; each-line = five-long; runs = no-frame-removed; refusing = refused-is }
+transmission = record { numbers = consecutive; each-line = five-long; runs = one-removed; refusing = refused-is }
 
 -- so this is what every fresh reader hands out
 pub five-handed-by-all : (room : List ℕ) → length room ≡ capacity → (hs : List Heard) → Reads (fresh 0 9) room (remain fates (sentFresh 0 9 five-lines)) hs → handedOut hs ≡ left

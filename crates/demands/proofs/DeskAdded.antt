@@ -12,26 +12,21 @@ use Rattle.words.specs.Modes.{wordOf}
 use Rattle.line.specs.Fixed.{isVariable, sizeOf}
 use Rattle.writer.specs.declared.state.Rest.{Rest}
 use Rattle.writer.specs.declared.state.Rest.the-variants.{Whole, Part}
-use Rattle.writer.specs.declared.state.Laid.{Laid}
 use Rattle.writer.specs.declared.state.Laid.the-variants.{Finished, Unfinished}
 use Rattle.writer.specs.State.{isPart, laidOf}
-use Rattle.writer.specs.Answers.{laidNumbers, Added}
+use Rattle.writer.specs.Answers.{Added}
 use Rattle.writer.specs.Block.{fixedWords}
 use Rattle.writer.specs.Adding.{addFault, todo, room, lay, adding}
 use Rattle.writer.specs.Course.{pieceOf, joined}
 use Rattle.writer.proofs.Keeps.{add-leaves}
 use Rattle.writer.proofs.Stays.{add-possible}
-use Rattle.writer.proofs.Pieces.{laid-ok, rest-left, varies}
+use Rattle.writer.proofs.Pieces.{rest-left, varies}
 use Rattle.writer.proofs.Writing.{Open, laid-on}
-use Rattle.demands.specs.Sending.{Piece, Complete, Desk, with, valuesNow, pieceNow, addedBy}
-use Rattle.demands.proofs.DeskOk.{AllLong, OpenNow, Owing, DeskOk}
-use Rattle.demands.proofs.DeskCalls.{joined-append}
-use Rattle.demands.proofs.DeskAdds.{finds, now-open, lent-now, all-now, words-now, goes-now, fills-say}
-
--- ---- a piece more, as long as the others
-long-more : (n : ℕ) (ps : List (List ℕ)) (p : List ℕ) → AllLong n ps → length p ≡ n → AllLong n (ps ++ (p ∷ []))
-long-more n [] p h e = (e, tt)
-long-more n (x ∷ ps) p h e = (h .0, long-more n ps p (h .1) e)
+use Rattle.demands.specs.Sending.{Piece, Complete, Desk, valuesNow, pieceNow, addedBy}
+use Rattle.demands.proofs.AllLaws.{all-more}
+use Rattle.demands.proofs.DeskOk.{OpenNow, Owing, Owes, DeskOk}
+use Rattle.demands.proofs.DeskCalls.{joined-append, laidDesk}
+use Rattle.demands.proofs.DeskAdds.{now-open, lent-now, all-now, words-now, goes-now, adds-say}
 
 fixed-long : (mode kind : ℕ) (vs : List ℕ) → length (fixedWords mode kind vs) ≡ length vs + 1
 unfolding fixedWords
@@ -46,85 +41,40 @@ abbrev valuesOf : Rest → ℕ
 valuesOf Whole = 0
 valuesOf (Part k n j) = n
 
-module _ (system mode : ℕ) (d : Desk) (kind : ℕ) (vs : List ℕ) (ok : DeskOk system mode d)
-    (clear : addFault (d .writer) (length (d .now .words)) kind vs ≡ 0) where
-  abbrev x : Added
-  x = adding (d .writer) (d .now .words) kind vs
-
+-- ---- what is owed, from any state and whatever words the line has
+module _ (mode : ℕ) (d : Desk) (kind : ℕ) (vs : List ℕ) (ow : Owes mode d) (clear : addFault (d .writer) (length (d .now .words)) kind vs ≡ 0) where
   abbrev k : ℕ
   k = room (d .writer) (todo (d .writer) kind vs)
 
-  leaves : adding (d .writer) (d .now .words) kind vs ≡ lay (d .writer) (d .now .words) kind vs
+  pub leaves : adding (d .writer) (d .now .words) kind vs ≡ lay (d .writer) (d .now .words) kind vs
   leaves = add-leaves (d .writer) (d .now .words) kind vs clear
 
-  -- the line is open still, with one piece more
-  line-now : Open system mode (d .now .f) (d .now .v) (d .now .number) (d .now .settings) (joined (d .now .pieces ++ (pieceOf (d .writer) (d .now .words) kind vs ∷ [])))
-      (x .state) (x .line)
-  line-now =
-      let o = now-open system mode d kind vs ok clear in
-      let p = pieceOf (d .writer) (d .now .words) kind vs in
-      let more : joined (d .now .pieces ++ (p ∷ [])) ≡ joined (d .now .pieces) ++ p =
-      joined-append (d .now .pieces) (p ∷ []) ∙ ap (λ (l : List ℕ). joined (d .now .pieces) ++ l) (append-nil p) in
-      subst (λ (l : List ℕ). Open system mode (d .now .f) (d .now .v) (d .now .number) (d .now .settings) l (x .state) (x .line)) (sym more)
-      (laid-on system mode (d .now .f) (d .now .v) (d .now .number) (d .now .settings) (o .held) (o .known) (o .row) (o .clean) (joined (d .now .pieces)) (d .writer)
-      (d .now .words) (o .is-open) kind vs clear)
-
-  piece-long : isVariable (d .now .settings .block) ≡ false → length (pieceOf (d .writer) (d .now .words) kind vs) ≡ sizeOf (d .now .settings .block)
-  piece-long v =
-      let fills = fills-say system mode d kind vs ok (finds system mode d kind vs ok clear .begun) v clear in
-      ap length (fills .piece) ∙ fixed-long mode kind vs ∙ fills .long
-
-  open-after : (bs : List Complete) (us : List ℕ) (ps : List Piece)
-      → OpenNow system mode
-      (record { writer = x .state; now = with (d .now) (d .now .pieces ++ (pieceNow d kind vs .words ∷ [])) bs (x .line); closed = d .closed; values = us; pieces = ps })
-  open-after bs us ps =
-      let o = now-open system mode d kind vs ok clear in
-      record {
-        is-open = line-now;
-        held = o .held;
-        known = o .known;
-        moded = o .moded;
-        row = o .row;
-        clean = o .clean;
-        one = o .one;
-        most-lines = o .most-lines;
-        last-is = ap (λ (y : Added). y .state .last) leaves ∙ o .last-is;
-        placed = λ v. long-more (sizeOf (d .now .settings .block)) (d .now .pieces) (pieceOf (d .writer) (d .now .words) kind vs) (o .placed v) (piece-long v);
-      }
+  mode-stays : adding (d .writer) (d .now .words) kind vs .state .mode ≡ mode
+  mode-stays = ap (λ (y : Added). y .state .mode) leaves ∙ ow .of-mode
 
   -- finished: no block is left
   pub rest-whole : adding (d .writer) (d .now .words) kind vs .answer ≡ Finished → adding (d .writer) (d .now .words) kind vs .state .rest ≡ Whole
-  rest-whole e = ap (λ (y : Added). y .state .rest) leaves ∙ pick-true _ _ (eq-eqb _ _ (all-now system mode d kind vs ok clear e))
+  rest-whole e = ap (λ (y : Added). y .state .rest) leaves ∙ pick-true _ _ (eq-eqb _ _ (all-now mode d kind vs ow clear e))
 
-  by-finished : adding (d .writer) (d .now .words) kind vs .answer ≡ Finished
-      → DeskOk system mode (addedBy Finished (adding (d .writer) (d .now .words) kind vs) d kind vs)
-  by-finished e =
-      record {
-        of-system = ap (λ (y : Added). y .state .system) leaves ∙ ok .of-system;
-        of-mode = ap (λ (y : Added). y .state .mode) leaves ∙ ok .of-mode;
-        possible = add-possible (d .writer) (d .now .words) kind vs (ok .possible);
-        opened = λ at. open-after _ [] [];
-        none-owing = λ r. refl;
-        owing = λ c n j r. absurd (true-false (sym (ap isPart r) ∙ ap isPart (rest-whole e)));
-      }
+  pub finished-owes : adding (d .writer) (d .now .words) kind vs .answer ≡ Finished
+      → Owes mode (addedBy Finished (adding (d .writer) (d .now .words) kind vs) d kind vs)
+  finished-owes e =
+      record { of-mode = mode-stays; none-owing = λ r. refl; owing = λ c n j r. absurd (true-false (sym (ap isPart r) ∙ ap isPart (rest-whole e))) }
 
   -- unfinished: what is laid now is the unfinished block
   owing-now : adding (d .writer) (d .now .words) kind vs .answer ≡ Unfinished
       → Owing mode (addedBy Unfinished (adding (d .writer) (d .now .words) kind vs) d kind vs) kind (length vs) (laidOf (d .writer .rest) + k)
   owing-now e =
       let v = varies (d .writer) (d .now .words) kind vs clear e in
-      let can = finds system mode d kind vs ok clear in
-      let lent = lent-now system mode d kind vs ok clear in
-      let range = goes-now system mode d kind vs ok clear v e in
+      let lent = lent-now mode d kind vs ow clear in
+      let range = goes-now mode d kind vs ow clear v e in
       record {
         variable = ap (λ (y : Added). isVariable (y .state .settings .block)) leaves ∙ v;
         long = lent .long;
-        small = omega (arith, can .byte);
-        at-most = can .number;
         values-fit = lent .fits;
         some = range .0;
         short = range .1;
-        words = words-now system mode d kind vs ok clear v;
+        words = words-now mode d kind vs ow clear v;
       }
 
   owing-as : adding (d .writer) (d .now .words) kind vs .answer ≡ Unfinished → (c n j : ℕ)
@@ -137,25 +87,62 @@ module _ (system mode : ℕ) (d : Desk) (kind : ℕ) (vs : List ℕ) (ok : DeskO
       (subst (λ (m : ℕ). Owing mode desk c m (laidOf (d .writer .rest) + k)) (ap valuesOf same)
       (subst (λ (h : ℕ). Owing mode desk h (length vs) (laidOf (d .writer .rest) + k)) (ap kindOf same) (owing-now e)))
 
-  by-unfinished : adding (d .writer) (d .now .words) kind vs .answer ≡ Unfinished
-      → DeskOk system mode (addedBy Unfinished (adding (d .writer) (d .now .words) kind vs) d kind vs)
-  by-unfinished e =
+  pub unfinished-owes : adding (d .writer) (d .now .words) kind vs .answer ≡ Unfinished
+      → Owes mode (addedBy Unfinished (adding (d .writer) (d .now .words) kind vs) d kind vs)
+  unfinished-owes e =
       record {
-        of-system = ap (λ (y : Added). y .state .system) leaves ∙ ok .of-system;
-        of-mode = ap (λ (y : Added). y .state .mode) leaves ∙ ok .of-mode;
-        possible = add-possible (d .writer) (d .now .words) kind vs (ok .possible);
-        opened = λ at. open-after (d .now .blocks) (valuesNow d vs) (d .pieces ++ (pieceNow d kind vs ∷ []));
+        of-mode = mode-stays;
         none-owing = λ r. absurd (true-false (sym (ap isPart (rest-left (d .writer) (d .now .words) kind vs clear e)) ∙ ap isPart r));
         owing = owing-as e;
       }
 
--- ---- an accepted addition
-pub finished-ok : (system mode : ℕ) (d : Desk) (kind : ℕ) (vs : List ℕ) → DeskOk system mode d → adding (d .writer) (d .now .words) kind vs .answer ≡ Finished
-    → DeskOk system mode (addedBy Finished (adding (d .writer) (d .now .words) kind vs) d kind vs)
-finished-ok system mode d kind vs ok e =
-    by-finished system mode d kind vs ok (laid-ok (d .writer) (d .now .words) kind vs (ap (λ (a : Laid). length (laidNumbers a)) e)) e
+-- ---- the line
+module _ (system mode : ℕ) (d : Desk) (kind : ℕ) (vs : List ℕ) (ok : DeskOk system mode d)
+    (clear : addFault (d .writer) (length (d .now .words)) kind vs ≡ 0) where
+  abbrev x : Added
+  x = adding (d .writer) (d .now .words) kind vs
 
-pub unfinished-ok : (system mode : ℕ) (d : Desk) (kind : ℕ) (vs : List ℕ) → DeskOk system mode d → adding (d .writer) (d .now .words) kind vs .answer ≡ Unfinished
-    → DeskOk system mode (addedBy Unfinished (adding (d .writer) (d .now .words) kind vs) d kind vs)
-unfinished-ok system mode d kind vs ok e =
-    by-unfinished system mode d kind vs ok (laid-ok (d .writer) (d .now .words) kind vs (ap (λ (a : Laid). length (laidNumbers a)) e)) e
+  -- the line is open still, with one piece more
+  line-now : Open system mode (d .now .f) (d .now .v) (d .now .number) (d .now .settings) (joined (d .now .pieces ++ (pieceOf (d .writer) (d .now .words) kind vs ∷ [])))
+      (x .state) (x .line)
+  line-now =
+      let o = now-open system mode d kind vs ok clear in
+      let p = pieceOf (d .writer) (d .now .words) kind vs in
+      let more : joined (d .now .pieces ++ (p ∷ [])) ≡ joined (d .now .pieces) ++ p =
+      joined-append (d .now .pieces) (p ∷ []) ∙ ap (λ (l : List ℕ). joined (d .now .pieces) ++ l) (append-nil p) in
+      subst (λ (l : List ℕ). Open system mode (d .now .f) (d .now .v) (d .now .number) (d .now .settings) l (x .state) (x .line)) (sym more)
+      (laid-on system mode (d .now .f) (d .now .v) (d .now .number) (d .now .settings) (o .openable .held) (o .openable .known) (o .openable .row) (o .openable .clean) (joined (d .now .pieces)) (d .writer)
+      (d .now .words) (o .is-open) kind vs clear)
+
+  piece-long : isVariable (d .now .settings .block) ≡ false → length (pieceOf (d .writer) (d .now .words) kind vs) ≡ sizeOf (d .now .settings .block)
+  piece-long v =
+      let fills = adds-say system mode d kind vs ok clear .fills v in
+      ap length (fills .piece) ∙ fixed-long mode kind vs ∙ fills .long
+
+  open-after : (bs : List Complete) (us : List ℕ) (ps : List Piece) → OpenNow system mode (laidDesk d kind vs bs us ps)
+  open-after bs us ps =
+      let o = now-open system mode d kind vs ok clear in
+      record {
+        is-open = line-now;
+        openable = o .openable;
+        last-is = ap (λ (y : Added). y .state .last) (leaves mode d kind vs (ok .owes) clear) ∙ o .last-is;
+        placed = λ v.
+            all-more (λ (l : List ℕ). length l ≡ sizeOf (d .now .settings .block)) (d .now .pieces) (pieceOf (d .writer) (d .now .words) kind vs) (o .placed v) (piece-long v);
+      }
+
+  laid-ok : (bs : List Complete) (us : List ℕ) (ps : List Piece) → Owes mode (laidDesk d kind vs bs us ps) → DeskOk system mode (laidDesk d kind vs bs us ps)
+  laid-ok bs us ps ow =
+      record {
+        of-system = ap (λ (y : Added). y .state .system) (leaves mode d kind vs (ok .owes) clear) ∙ ok .of-system;
+        possible = add-possible (d .writer) (d .now .words) kind vs (ok .possible);
+        opened = λ at. open-after bs us ps;
+        owes = ow;
+      }
+
+  pub finished-ok : adding (d .writer) (d .now .words) kind vs .answer ≡ Finished
+      → DeskOk system mode (addedBy Finished (adding (d .writer) (d .now .words) kind vs) d kind vs)
+  finished-ok e = laid-ok _ [] [] (finished-owes mode d kind vs (ok .owes) clear e)
+
+  pub unfinished-ok : adding (d .writer) (d .now .words) kind vs .answer ≡ Unfinished
+      → DeskOk system mode (addedBy Unfinished (adding (d .writer) (d .now .words) kind vs) d kind vs)
+  unfinished-ok e = laid-ok (d .now .blocks) (valuesNow d vs) (d .pieces ++ (pieceNow d kind vs ∷ [])) (unfinished-owes mode d kind vs (ok .owes) clear e)

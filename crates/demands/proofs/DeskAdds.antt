@@ -15,14 +15,11 @@ use Rattle.words.specs.Modes.{values}
 use Rattle.line.specs.declared.settings.Settings.{Settings}
 use Rattle.line.specs.Fixed.{isVariable, sizeOf}
 use Rattle.course.specs.declared.Place.{Place}
-use Rattle.course.specs.declared.Place.the-variants.{At}
 use Rattle.course.specs.Course.{isAt}
 use Rattle.writer.specs.declared.state.Rest.{Rest}
 use Rattle.writer.specs.declared.state.Rest.the-variants.{Whole, Part}
-use Rattle.writer.specs.declared.state.Laid.{Laid}
 use Rattle.writer.specs.declared.state.Laid.the-variants.{Finished, Unfinished}
 use Rattle.writer.specs.State.{most, laidOf}
-use Rattle.writer.specs.Answers.{laidNumbers}
 use Rattle.writer.specs.Block.{blockWords, fixedWords, wordsIn}
 use Rattle.writer.specs.Adding.{valued, illShaped, isOther, addFault, todo, room, adding}
 use Rattle.writer.specs.Course.{pieceOf, asLaid}
@@ -30,16 +27,12 @@ use Rattle.writer.proofs.BlockLaws.{words-long}
 use Rattle.writer.proofs.Legal.{each-take, each-drop}
 use Rattle.writer.proofs.Refusals.{CanAdd, can-add, count, count-variable}
 use Rattle.writer.proofs.Stays.{words-variable, words-fixed, part-laid, fixed-whole}
-use Rattle.writer.proofs.Pieces.{laid-ok, piece-laid, all-laid, some-left, fixed-once, as-long, as-before, as-behind}
+use Rattle.writer.proofs.Pieces.{piece-laid, all-laid, some-left, fixed-once, as-long, as-before, as-behind}
 use Rattle.demands.specs.Sending.{Desk, valuesNow, pieceNow, joinedPieces}
 use Rattle.demands.proofs.BlockRun.{block-long}
-use Rattle.demands.proofs.DeskOk.{OpenNow, DeskOk}
-use Rattle.demands.proofs.Outcomes.{Varies, Fills}
+use Rattle.demands.proofs.DeskOk.{OpenNow, Owes, DeskOk}
+use Rattle.demands.proofs.Outcomes.{Varies, Fills, Adds}
 use Rattle.demands.proofs.DeskCalls.{joined-pieces-append}
-
--- accepted additions are on an open line
-pub add-places : (d : Desk) (kind : ℕ) (vs : List ℕ) → addFault (d .writer) (length (d .now .words)) kind vs ≡ 0 → isAt (d .writer .place) ≡ true
-add-places d kind vs clear = can-add (d .writer) (d .now .words) kind vs clear .begun
 
 -- ---- the values as laid, j words before and the others now, against those lent now
 pub record Lent (mode kind j : ℕ) (laid values vs : List ℕ) : Type 0 where
@@ -54,11 +47,11 @@ lent-fits mode i us vs eu ev =
     let f : ℕ → Bool = λ (x : ℕ). ltb x (values mode) in
     each-append f (take i us) (drop i vs) (each-take f i us eu) (each-drop f i vs ev)
 
-lent-by : (system mode : ℕ) (d : Desk) (kind : ℕ) (vs : List ℕ) (r : Rest) → DeskOk system mode d → valued mode vs ≡ true → d .writer .rest ≡ r
+lent-by : (mode : ℕ) (d : Desk) (kind : ℕ) (vs : List ℕ) (r : Rest) → Owes mode d → valued mode vs ≡ true → d .writer .rest ≡ r
     → isOther r kind (length vs) ≡ false → Lent mode kind (laidOf r) (joinedPieces (d .pieces)) (d .values) vs
-lent-by system mode d kind vs Whole ok fit e same = record { long = refl; fits = fit; before = ap joinedPieces (ok .none-owing e); behind = refl }
-lent-by system mode d kind vs (Part k n j) ok fit e same =
-    let o = ok .owing k n j e in
+lent-by mode d kind vs Whole ow fit e same = record { long = refl; fits = fit; before = ap joinedPieces (ow .none-owing e); behind = refl }
+lent-by mode d kind vs (Part k n j) ow fit e same =
+    let o = ow .owing k n j e in
     let b = both-true (eqb k kind) (eqb n (length vs)) (not-false _ same) in
     let is : n ≡ length vs = eqb-true n (length vs) (b .1) in
     let ev : length (d .values) ≡ length vs = o .long ∙ is in
@@ -83,7 +76,8 @@ shape-fixed p block kind n o v e =
     let c = or-false (not (eqb (n + 1) (sizeOf block))) (eqb kind 0) b in
     (eqb-true _ _ (not-false _ (c .0)), omega (arith, eqb-false kind 0 (c .1)))
 
-module _ (system mode : ℕ) (d : Desk) (kind : ℕ) (vs : List ℕ) (ok : DeskOk system mode d)
+-- ---- from any state, and whatever words the line has
+module _ (mode : ℕ) (d : Desk) (kind : ℕ) (vs : List ℕ) (ow : Owes mode d)
     (clear : addFault (d .writer) (length (d .now .words)) kind vs ≡ 0) where
   -- how many words are laid now
   abbrev k : ℕ
@@ -92,17 +86,11 @@ module _ (system mode : ℕ) (d : Desk) (kind : ℕ) (vs : List ℕ) (ok : DeskO
   pub finds : CanAdd (d .writer) (d .now .words) kind vs
   finds = can-add (d .writer) (d .now .words) kind vs clear
 
-  pub now-open : OpenNow system mode d
-  now-open = ok .opened (finds .begun)
-
-  pub now-block : d .writer .settings .block ≡ d .now .settings .block
-  now-block = ap (λ (u : Settings). u .block) (now-open .is-open .of-settings)
-
   now-fits : valued mode vs ≡ true
-  now-fits = ap (λ (m : ℕ). valued m vs) (sym (ok .of-mode)) ∙ finds .values
+  now-fits = ap (λ (m : ℕ). valued m vs) (sym (ow .of-mode)) ∙ finds .values
 
   pub lent-now : Lent mode kind (laidOf (d .writer .rest)) (joinedPieces (d .pieces)) (d .values) vs
-  lent-now = lent-by system mode d kind vs (d .writer .rest) ok now-fits refl (finds .same)
+  lent-now = lent-by mode d kind vs (d .writer .rest) ow now-fits refl (finds .same)
 
   todo-long : length (todo (d .writer) kind vs) ≡ count (d .writer .settings .block) (length vs) - laidOf (d .writer .rest)
   todo-long =
@@ -122,7 +110,7 @@ module _ (system mode : ℕ) (d : Desk) (kind : ℕ) (vs : List ℕ) (ok : DeskO
   -- ---- a variable line
   module _ (v : isVariable (d .writer .settings .block) ≡ true) where
     variable-words : (us : List ℕ) → wordsIn (d .writer .settings .block) (d .writer .mode) kind us ≡ blockWords mode kind us
-    variable-words us = words-variable (d .writer .settings .block) (d .writer .mode) kind us v ∙ ap (λ (m : ℕ). blockWords m kind us) (ok .of-mode)
+    variable-words us = words-variable (d .writer .settings .block) (d .writer .mode) kind us v ∙ ap (λ (m : ℕ). blockWords m kind us) (ow .of-mode)
 
     pub piece-now : pieceOf (d .writer) (d .now .words) kind vs ≡ take k (drop (laidOf (d .writer .rest)) (blockWords mode kind (valuesNow d vs)))
     piece-now =
@@ -142,83 +130,100 @@ module _ (system mode : ℕ) (d : Desk) (kind : ℕ) (vs : List ℕ) (ok : DeskO
         → (1 ≤ laidOf (d .writer .rest) + k) × (laidOf (d .writer .rest) + k ≤ length vs + 6)
     goes-now e = part-laid (d .writer) (d .now .words) kind vs clear v (eqb-false _ _ (some-left (d .writer) (d .now .words) kind vs clear e))
 
-    now-varies : Varies mode d kind vs
-    now-varies = record {
-      small = omega (arith, finds .byte);
-      at-most = omega (arith, lent-now .long, finds .number);
-      values-fit = lent-now .fits;
-      k = k;
-      some = some-laid;
-      before = lent-now .before;
-      piece = piece-now;
-      ends = ends-now;
-      goes-on = λ e. omega (arith, goes-now e .1, lent-now .long);
-    }
-
     whole-variable : adding (d .writer) (d .now .words) kind vs .answer ≡ Finished
-        → joinedPieces (d .pieces ++ (pieceNow d kind vs ∷ [])) ≡ wordsIn (d .now .settings .block) mode kind (valuesNow d vs)
+        → joinedPieces (d .pieces ++ (pieceNow d kind vs ∷ [])) ≡ wordsIn (d .writer .settings .block) mode kind (valuesNow d vs)
     whole-variable e =
         let us = valuesNow d vs in
         words-now ∙ take-all (laidOf (d .writer .rest) + k) (blockWords mode kind us) (omega (arith, ends-now e, block-long mode kind us))
-        ∙ sym (words-variable (d .now .settings .block) mode kind us (ap isVariable (sym now-block) ∙ v))
+        ∙ sym (words-variable (d .writer .settings .block) mode kind us v)
 
   -- ---- a fixed line
   module _ (v : isVariable (d .writer .settings .block) ≡ false) where
     none-laid : d .writer .rest ≡ Whole
     none-laid = fixed-whole (d .writer) (d .now .words) kind vs clear v
 
-    now-fills : Fills mode d kind vs
-    now-fills =
-        let shape = shape-fixed (d .writer .place) (d .writer .settings .block) kind (length vs) (finds .begun) v (finds .shape) in
-        let once = fixed-once (d .writer) (d .now .words) kind vs clear v in
-        record {
-          finished = once .0;
-          small = omega (arith, finds .byte);
-          some = shape .1;
-          values-fit = now-fits;
-          values-are = ap (λ (r : Rest). asLaid (laidOf r) (d .values) vs) none-laid;
-          long = shape .0 ∙ ap sizeOf now-block;
-          none-before = ok .none-owing none-laid;
-          piece = once .1 ∙ ap (λ (m : ℕ). fixedWords m kind vs) (ok .of-mode);
-        }
+    pub none-before : d .pieces ≡ []
+    none-before = ow .none-owing none-laid
 
-    whole-fixed : joinedPieces (d .pieces ++ (pieceNow d kind vs ∷ [])) ≡ wordsIn (d .now .settings .block) mode kind (valuesNow d vs)
+    pub values-are : valuesNow d vs ≡ vs
+    values-are = ap (λ (r : Rest). asLaid (laidOf r) (d .values) vs) none-laid
+
+    pub piece-fixed : pieceOf (d .writer) (d .now .words) kind vs ≡ fixedWords mode kind vs
+    piece-fixed = fixed-once (d .writer) (d .now .words) kind vs clear v .1 ∙ ap (λ (m : ℕ). fixedWords m kind vs) (ow .of-mode)
+
+    whole-fixed : joinedPieces (d .pieces ++ (pieceNow d kind vs ∷ [])) ≡ wordsIn (d .writer .settings .block) mode kind (valuesNow d vs)
     whole-fixed =
         joined-pieces-append (d .pieces) (pieceNow d kind vs ∷ [])
-        ∙ ap₂ _++_ (ap joinedPieces (now-fills .none-before)) (append-nil (pieceOf (d .writer) (d .now .words) kind vs) ∙ now-fills .piece)
-        ∙ ap (fixedWords mode kind) (sym (now-fills .values-are))
-        ∙ sym (words-fixed (d .now .settings .block) mode kind (valuesNow d vs) (ap isVariable (sym now-block) ∙ v))
+        ∙ ap₂ _++_ (ap joinedPieces none-before) (append-nil (pieceOf (d .writer) (d .now .words) kind vs) ∙ piece-fixed)
+        ∙ ap (fixedWords mode kind) (sym values-are)
+        ∙ sym (words-fixed (d .writer .settings .block) mode kind (valuesNow d vs) v)
 
--- ---- an accepted addition
-pub varies-say : (system mode : ℕ) (d : Desk) (kind : ℕ) (vs : List ℕ) → DeskOk system mode d → isAt (d .writer .place) ≡ true
-    → isVariable (d .now .settings .block) ≡ true → addFault (d .writer) (length (d .now .words)) kind vs ≡ 0 → Varies mode d kind vs
-varies-say system mode d kind vs ok at v clear = now-varies system mode d kind vs ok clear (ap isVariable (now-block system mode d kind vs ok clear) ∙ v)
+  -- ---- either
+  pub piece-some : 1 ≤ length (pieceOf (d .writer) (d .now .words) kind vs)
+  piece-some =
+      let ws = todo (d .writer) kind vs in
+      let long : length (pieceOf (d .writer) (d .now .words) kind vs) ≡ min k (length ws) =
+      ap length (piece-laid (d .writer) (d .now .words) kind vs clear) ∙ length-take k ws in
+      omega (arith, long, some-laid)
 
-pub fills-say : (system mode : ℕ) (d : Desk) (kind : ℕ) (vs : List ℕ) → DeskOk system mode d → isAt (d .writer .place) ≡ true
-    → isVariable (d .now .settings .block) ≡ false → addFault (d .writer) (length (d .now .words)) kind vs ≡ 0 → Fills mode d kind vs
-fills-say system mode d kind vs ok at v clear = now-fills system mode d kind vs ok clear (ap isVariable (now-block system mode d kind vs ok clear) ∙ v)
+  -- a finished block: its pieces, joined, are its words
+  pub whole-now : adding (d .writer) (d .now .words) kind vs .answer ≡ Finished
+      → joinedPieces (d .pieces ++ (pieceNow d kind vs ∷ [])) ≡ wordsIn (d .writer .settings .block) mode kind (valuesNow d vs)
+  whole-now e = by (isVariable (d .writer .settings .block)) refl
+    where
+      by : (b : Bool) → isVariable (d .writer .settings .block) ≡ b
+          → joinedPieces (d .pieces ++ (pieceNow d kind vs ∷ [])) ≡ wordsIn (d .writer .settings .block) mode kind (valuesNow d vs)
+      by true v = whole-variable v e
+      by false v = whole-fixed v
 
--- a finished block: its pieces, joined, are its words
-pub block-whole : (system mode : ℕ) (d : Desk) (kind : ℕ) (vs : List ℕ) → DeskOk system mode d → isAt (d .writer .place) ≡ true
-    → adding (d .writer) (d .now .words) kind vs .answer ≡ Finished
-    → joinedPieces (d .pieces ++ (pieceNow d kind vs ∷ [])) ≡ wordsIn (d .now .settings .block) mode kind (valuesNow d vs)
-block-whole system mode d kind vs ok at e = go (isVariable (d .writer .settings .block)) refl
-  where
-    clear : addFault (d .writer) (length (d .now .words)) kind vs ≡ 0
-    clear = laid-ok (d .writer) (d .now .words) kind vs (ap (λ (a : Laid). length (laidNumbers a)) e)
+-- ---- on a line as the calls before left it
+module _ (system mode : ℕ) (d : Desk) (kind : ℕ) (vs : List ℕ) (ok : DeskOk system mode d)
+    (clear : addFault (d .writer) (length (d .now .words)) kind vs ≡ 0) where
+  can : CanAdd (d .writer) (d .now .words) kind vs
+  can = finds mode d kind vs (ok .owes) clear
 
-    go : (b : Bool) → isVariable (d .writer .settings .block) ≡ b
-        → joinedPieces (d .pieces ++ (pieceNow d kind vs ∷ [])) ≡ wordsIn (d .now .settings .block) mode kind (valuesNow d vs)
-    go true v = whole-variable system mode d kind vs ok clear v e
-    go false v = whole-fixed system mode d kind vs ok clear v
+  pub now-open : OpenNow system mode d
+  now-open = ok .opened (can .begun)
 
--- an accepted addition lays one word or more: there is room for one, and one is left to lay
-pub piece-some : (d : Desk) (kind : ℕ) (vs : List ℕ) → addFault (d .writer) (length (d .now .words)) kind vs ≡ 0 → 1 ≤ length (pieceOf (d .writer) (d .now .words) kind vs)
-piece-some d kind vs clear =
-    let w = d .writer in
-    let a = can-add w (d .now .words) kind vs clear in
-    let ws = todo w kind vs in
-    let left = length-drop (laidOf (w .rest)) (wordsIn (w .settings .block) (w .mode) kind vs) in
-    let all = words-long (w .settings .block) (w .mode) kind vs in
-    let long : length (pieceOf (d .writer) (d .now .words) kind vs) ≡ min (room w ws) (length ws) = ap length (piece-laid w (d .now .words) kind vs clear) ∙ length-take (room w ws) ws in
-    omega (arith, a .room, a .left)
+  now-block : d .writer .settings .block ≡ d .now .settings .block
+  now-block = ap (λ (u : Settings). u .block) (now-open .is-open .of-settings)
+
+  now-varies : isVariable (d .writer .settings .block) ≡ true → Varies mode d kind vs
+  now-varies v =
+      let lent = lent-now mode d kind vs (ok .owes) clear in
+      record {
+        small = omega (arith, can .byte);
+        at-most = omega (arith, lent .long, can .number);
+        length-is = lent .long;
+        values-fit = lent .fits;
+        k = room (d .writer) (todo (d .writer) kind vs);
+        some = some-laid mode d kind vs (ok .owes) clear;
+        before = lent .before;
+        piece = piece-now mode d kind vs (ok .owes) clear v;
+        ends = ends-now mode d kind vs (ok .owes) clear v;
+        goes-on = λ e. omega (arith, goes-now mode d kind vs (ok .owes) clear v e .1, lent .long);
+      }
+
+  now-fills : isVariable (d .writer .settings .block) ≡ false → Fills mode d kind vs
+  now-fills v =
+      let shape = shape-fixed (d .writer .place) (d .writer .settings .block) kind (length vs) (can .begun) v (can .shape) in
+      record {
+        finished = fixed-once (d .writer) (d .now .words) kind vs clear v .0;
+        small = omega (arith, can .byte);
+        some = shape .1;
+        values-fit = now-fits mode d kind vs (ok .owes) clear;
+        values-are = values-are mode d kind vs (ok .owes) clear v;
+        long = shape .0 ∙ ap sizeOf now-block;
+        none-before = none-before mode d kind vs (ok .owes) clear v;
+        piece = piece-fixed mode d kind vs (ok .owes) clear v;
+      }
+
+  pub adds-say : Adds mode d kind vs
+  adds-say = record {
+    begun = can .begun;
+    number = can .number;
+    some = piece-some mode d kind vs (ok .owes) clear;
+    varies = λ v. now-varies (ap isVariable now-block ∙ v);
+    fills = λ v. now-fills (ap isVariable now-block ∙ v);
+    whole = λ e. whole-now mode d kind vs (ok .owes) clear e ∙ ap (λ (b : ℕ). wordsIn b mode kind (valuesNow d vs)) now-block;
+  }

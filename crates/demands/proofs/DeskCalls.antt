@@ -7,22 +7,28 @@ use Prim.Native.Nat.{ℕ}
 use native.Mathlib.Omega.{arith}
 use lib.ListN.{length}
 use Rattle.lists.specs.Tests.{pick}
+use Rattle.lists.proofs.Tests.{true-false}
 use Rattle.line.specs.declared.settings.Settings.{Settings}
 use Rattle.line.specs.Settings.{Held}
 use Rattle.line.specs.Fixed.{isVariable}
+use Rattle.course.specs.declared.Place.the-variants.{Shut, At}
+use Rattle.course.specs.Course.{isAt}
+use Rattle.writer.specs.declared.state.Rest.{Rest}
+use Rattle.writer.specs.declared.state.Rest.the-variants.{Whole, Part}
 use Rattle.writer.specs.declared.state.Writer.{Writer}
 use Rattle.writer.specs.declared.state.Answer.{Answer}
 use Rattle.writer.specs.declared.state.Answer.the-variants.{Refused, Done}
 use Rattle.writer.specs.declared.state.Laid.{Laid}
 use Rattle.writer.specs.declared.state.Laid.the-variants.{Not, Finished, Unfinished}
+use Rattle.writer.specs.State.{isPart}
 use Rattle.writer.specs.Answers.{laidNumbers, Added}
 use Rattle.writer.specs.Opening.{opening}
 use Rattle.writer.specs.Adding.{addFault, adding}
 use Rattle.writer.specs.Closing.{closing}
 use Rattle.writer.specs.Course.{joined}
 use Rattle.writer.proofs.Keeps.{open-keeps, close-keeps, add-stays, add-leaves}
-use Rattle.demands.specs.Sending.{opens, adds, closes, Piece, Sent, Desk, openedBy, with, addedBy, closedBy, after, joinedPieces}
-use Rattle.demands.proofs.DeskOk.{Owing, DeskOk}
+use Rattle.demands.specs.Sending.{opens, adds, closes, Piece, Complete, Sent, Desk, openedBy, with, pieceNow, addedBy, closedBy, after, joinedPieces}
+use Rattle.demands.proofs.DeskOk.{Owes, DeskOk}
 
 -- ---- joined
 pub joined-pieces-append : (ps qs : List Piece) → joinedPieces (ps ++ qs) ≡ joinedPieces ps ++ joinedPieces qs
@@ -33,6 +39,10 @@ joined-pieces-append (p ∷ ps) qs =
 pub joined-append : (ps qs : List (List ℕ)) → joined (ps ++ qs) ≡ joined ps ++ joined qs
 joined-append [] qs = refl
 joined-append (p ∷ ps) qs = ap (λ (l : List ℕ). p ++ l) (joined-append ps qs) ∙ sym (append-assoc p (joined ps) (joined qs))
+
+-- ---- a line is open or not
+pub shut-at : (p : ℕ) → Shut ≡ At p → ⊥
+shut-at p e = true-false (sym (ap isAt e))
 
 -- ---- opening
 module _ (d : Desk) (f v : Bool) (n : ℕ) (t : Settings) (held : Held t) (lent : List ℕ) where
@@ -49,8 +59,14 @@ module _ (d : Desk) (f v : Bool) (n : ℕ) (t : Settings) (held : Held t) (lent 
 
 -- ---- adding
 -- the desk with another state, and other words of the line opened last
-abbrev moves : Desk → Writer → List ℕ → Desk
+abbrev pub moves : Desk → Writer → List ℕ → Desk
 moves d w ws = record { writer = w; now = with (d .now) (d .now .pieces) (d .now .blocks) ws; closed = d .closed; values = d .values; pieces = d .pieces }
+
+-- the desk behind an accepted addition: a piece more on the line, these blocks finished on it, and of an unfinished block these values and pieces
+abbrev pub laidDesk : Desk → ℕ → List ℕ → List Complete → List ℕ → List Piece → Desk
+laidDesk d kind vs bs us ps =
+    let x = adding (d .writer) (d .now .words) kind vs in
+    record { writer = x .state; now = with (d .now) (d .now .pieces ++ (pieceNow d kind vs .words ∷ [])) bs (x .line); closed = d .closed; values = us; pieces = ps }
 
 laid-not : (k : ℕ) (b : Bool) → pick b Finished Unfinished ≡ Not k → ⊥
 unfolding pick
@@ -97,40 +113,43 @@ module _ (d : Desk) where
 -- ---- what holds of the desk, by the system and the mode of its state
 pub own : (system mode : ℕ) (d : Desk) → DeskOk system mode d → DeskOk (d .writer .system) (d .writer .mode) d
 own system mode d ok =
-    subst (λ (s : ℕ). DeskOk s (d .writer .mode) d) (sym (ok .of-system)) (subst (λ (m : ℕ). DeskOk system m d) (sym (ok .of-mode)) ok)
+    subst (λ (s : ℕ). DeskOk s (d .writer .mode) d) (sym (ok .of-system)) (subst (λ (m : ℕ). DeskOk system m d) (sym (ok .owes .of-mode)) ok)
 
 pub by-own : (system mode : ℕ) (d : Desk) (P : ℕ → ℕ → Type 0) → DeskOk system mode d → P (d .writer .system) (d .writer .mode) → P system mode
-by-own system mode d P ok p = subst (λ (s : ℕ). P s mode) (ok .of-system) (subst (λ (m : ℕ). P (d .writer .system) m) (ok .of-mode) p)
+by-own system mode d P ok p = subst (λ (s : ℕ). P s mode) (ok .of-system) (subst (λ (m : ℕ). P (d .writer .system) m) (ok .owes .of-mode) p)
 
--- an unfinished block stays where the block type of the settings does
-pub owing-stays : (mode : ℕ) (d : Desk) (w : Writer) (s : Sent) (c kind n j : ℕ) → w .settings .block ≡ d .writer .settings .block → Owing mode d kind n j
-    → Owing mode (record { writer = w; now = s; closed = c; values = d .values; pieces = d .pieces }) kind n j
-owing-stays mode d w s c kind n j e o =
+-- with no block unfinished nothing is owing, and so in a fixed line
+pub none-left : (system mode : ℕ) (d : Desk) → DeskOk system mode d → isPart (d .writer .rest) ≡ false → d .pieces ≡ []
+none-left system mode d ok e = by (d .writer .rest) refl
+  where
+    by : (r : Rest) → d .writer .rest ≡ r → d .pieces ≡ []
+    by Whole h = ok .owes .none-owing h
+    by (Part k n j) h = absurd (true-false (sym (ap isPart h) ∙ e))
+
+pub fixed-none : (system mode : ℕ) (d : Desk) → DeskOk system mode d → isVariable (d .writer .settings .block) ≡ false → d .pieces ≡ []
+fixed-none system mode d ok v = by (d .writer .rest) refl
+  where
+    by : (r : Rest) → d .writer .rest ≡ r → d .pieces ≡ []
+    by Whole h = ok .owes .none-owing h
+    by (Part k n j) h = absurd (true-false (sym (ok .owes .owing k n j h .variable) ∙ v))
+
+-- what is owed stays where the mode and the unfinished block do, and the block type with it; whatever becomes of the line
+pub owes-stays : (mode : ℕ) (d : Desk) (w : Writer) (s : Sent) (c : ℕ) → w .mode ≡ d .writer .mode → w .rest ≡ d .writer .rest
+    → (isPart (d .writer .rest) ≡ true → w .settings .block ≡ d .writer .settings .block) → Owes mode d
+    → Owes mode (record { writer = w; now = s; closed = c; values = d .values; pieces = d .pieces })
+owes-stays mode d w s c m rest block ow =
     record {
-      variable = ap isVariable e ∙ o .variable;
-      long = o .long;
-      small = o .small;
-      at-most = o .at-most;
-      values-fit = o .values-fit;
-      some = o .some;
-      short = o .short;
-      words = o .words;
+      of-mode = m ∙ ow .of-mode;
+      none-owing = λ r. ow .none-owing (sym rest ∙ r);
+      owing = λ kind n j r.
+          let part = sym rest ∙ r in
+          let o = ow .owing kind n j part in
+          record {
+            variable = ap isVariable (block (ap isPart part)) ∙ o .variable;
+            long = o .long;
+            values-fit = o .values-fit;
+            some = o .some;
+            short = o .short;
+            words = o .words;
+          };
     }
-
--- opening and adding close no line
-pub open-closed : (d : Desk) (f v : Bool) (n : ℕ) (t : Settings) (held : Held t) (lent : List ℕ) → after d (opens f v n t held lent) .closed ≡ d .closed
-unfolding after
-open-closed d f v n t held lent = by (opening (d .writer) f v n t lent .answer)
-  where
-    by : (z : Answer) → openedBy z (opening (d .writer) f v n t lent) d f v n t .closed ≡ d .closed
-    by (Refused k) = refl
-    by Done = refl
-
-pub add-closed : (d : Desk) (kind : ℕ) (vs : List ℕ) → after d (adds kind vs) .closed ≡ d .closed
-unfolding after
-add-closed d kind vs = by (adding (d .writer) (d .now .words) kind vs .answer)
-  where
-    by : (z : Laid) → addedBy z (adding (d .writer) (d .now .words) kind vs) d kind vs .closed ≡ d .closed
-    by (Not k) = refl
-    by Finished = refl
-    by Unfinished = refl

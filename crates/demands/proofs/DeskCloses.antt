@@ -3,14 +3,14 @@
 use mathlib.Core.Path.{_≡_, sym, ap, ap₂, _∙_, subst}
 use mathlib.Core.Bool.{Bool, true, false, _&&_, not}
 use mathlib.Core.List.{List, [], _∷_}
-use Prim.Native.Nat.{ℕ, zero, suc, _-_, _*_, _/_, _≤_}
+use Prim.Native.Nat.{ℕ, suc, _-_, _*_, _/_, _≤_}
 use native.Mathlib.Nat.{suc-mul, mul-div-cancel, zero-mul}
 use native.Mathlib.Omega.{arith}
-use lib.Dec.{eqb, lit≤}
+use lib.Dec.{eqb, leb, lit≤}
 use lib.ListN.{length, length-append}
 use borrow.Author.Tests.{leb-true, ltb-true, not-false}
 use Rattle.lists.specs.Tests.{pick}
-use Rattle.lists.proofs.Tests.{true-false, or-right, pick-true}
+use Rattle.lists.proofs.Tests.{true-false, below, or-right, pick-true}
 use Rattle.line.specs.declared.settings.Settings.{Settings}
 use Rattle.line.specs.Systems.{systemOf, isSystem}
 use Rattle.line.specs.Fixed.{isVariable, sizeOf, placesOf}
@@ -32,16 +32,12 @@ use Rattle.writer.proofs.Writing.{closed-line, closed-accepted}
 use Rattle.demands.specs.Sending.{Desk, closedBy}
 use Rattle.demands.proofs.DeskOk.{AllLong, OpenNow, DeskOk}
 use Rattle.demands.proofs.Outcomes.{Closes}
-use Rattle.demands.proofs.DeskCalls.{owing-stays}
+use Rattle.demands.proofs.DeskCalls.{owes-stays}
 
 -- ---- an area has a word, with either flag
 payload-some : (system : ℕ) → isSystem system ≡ true → 3 ≤ systemOf system .payload
 unfolding isSystem
-payload-some zero e = lit≤ tt
-payload-some (suc zero) e = lit≤ tt
-payload-some (suc (suc zero)) e = lit≤ tt
-payload-some (suc (suc (suc zero))) e = lit≤ tt
-payload-some (suc (suc (suc (suc n)))) e = absurd (omega (arith, ltb-true (suc (suc (suc (suc n)))) 4 e))
+payload-some system e = lit≤ (below 4 (λ (s : ℕ). leb 3 (systemOf s .payload)) tt system (ltb-true system 4 e))
 
 area-by : (p : ℕ) (b : Bool) → 3 ≤ p → 1 ≤ pick b (p - 2) p
 unfolding pick
@@ -58,7 +54,7 @@ filled-by end place false e p at = absurd (true-false (sym p))
 filled-by end Shut true e p at = absurd (true-false (sym at))
 filled-by end (At q) true e p at = leb-true end q (not-false _ e)
 
-varied-by : (part variable : Bool) → (part && not variable) ≡ false → part ≡ true → variable ≡ true
+pub varied-by : (part variable : Bool) → (part && not variable) ≡ false → part ≡ true → variable ≡ true
 varied-by true variable e p = not-false variable e
 varied-by false variable e p = absurd (true-false (sym p))
 
@@ -123,16 +119,17 @@ module _ (system mode : ℕ) (d : Desk) (ok : DeskOk system mode d) (done : clos
 pub closes-say : (system mode : ℕ) (d : Desk) → DeskOk system mode d → closing (d .writer) (d .now .words) .answer ≡ Done → Closes system mode d
 closes-say system mode d ok done =
     let o = now-open system mode d ok done in
+    let a = o .openable in
     let t = d .now .settings in
     let e = leaves system mode d ok done in
     let full = fills system mode d ok done in
     record {
       is =
-          closed-line system mode (d .now .f) (d .now .v) (d .now .number) t (o .held) (o .known) (o .moded) (o .row) (o .clean) (o .one)
-          (o .most-lines) (d .now .pieces) (d .writer) (d .now .words) (o .is-open) done;
+          closed-line system mode (d .now .f) (d .now .v) (d .now .number) t (a .held) (a .known) (a .moded) (a .row) (a .clean) (a .one)
+          (a .most-lines) (d .now .pieces) (d .writer) (d .now .words) (o .is-open) done;
       accepts =
-          closed-accepted system mode (d .now .f) (d .now .v) (d .now .number) t (o .held) (o .known) (o .moded) (o .row) (o .clean) (o .one)
-          (o .most-lines) (d .now .pieces) (d .writer) (d .now .words) (o .is-open) done;
+          closed-accepted system mode (d .now .f) (d .now .v) (d .now .number) t (a .held) (a .known) (a .moded) (a .row) (a .clean) (a .one)
+          (a .most-lines) (d .now .pieces) (d .writer) (d .now .words) (o .is-open) done;
       last-is = o .last-is;
       settings-are = o .is-open .of-settings;
       state-last = ap (λ (x : Left). x .state .last) e;
@@ -142,7 +139,7 @@ closes-say system mode d ok done =
       full = full;
       within = few system mode d ok done;
       begun = λ part p at.
-          omega (arith, full part, place-is system mode d ok done, ap placeOf at, area-some system (t .flag) (o .known));
+          omega (arith, full part, place-is system mode d ok done, ap placeOf at, area-some system (t .flag) (a .known));
     }
 
 pub closed-ok : (system mode : ℕ) (d : Desk) → DeskOk system mode d → closing (d .writer) (d .now .words) .answer ≡ Done
@@ -150,13 +147,10 @@ pub closed-ok : (system mode : ℕ) (d : Desk) → DeskOk system mode d → clos
 closed-ok system mode d ok done =
     let e = leaves system mode d ok done in
     let x = closing (d .writer) (d .now .words) in
-    let rest : x .state .rest ≡ d .writer .rest = ap (λ (y : Left). y .state .rest) e in
     record {
       of-system = ap (λ (y : Left). y .state .system) e ∙ ok .of-system;
-      of-mode = ap (λ (y : Left). y .state .mode) e ∙ ok .of-mode;
       possible = close-possible (d .writer) (d .now .words) (ok .possible);
       opened = λ at. absurd (true-false (sym at ∙ ap (λ (y : Left). isAt (y .state .place)) e));
-      none-owing = λ r. ok .none-owing (sym rest ∙ r);
-      owing = λ kind n j r.
-          owing-stays mode d (x .state) _ (suc (d .closed)) kind n j (ap (λ (y : Left). y .state .settings .block) e) (ok .owing kind n j (sym rest ∙ r));
+      owes = owes-stays mode d (x .state) _ (suc (d .closed)) (ap (λ (y : Left). y .state .mode) e) (ap (λ (y : Left). y .state .rest) e)
+          (λ z. ap (λ (y : Left). y .state .settings .block) e) (ok .owes);
     }

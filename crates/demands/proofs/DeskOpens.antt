@@ -10,10 +10,10 @@ use Rattle.lists.proofs.Tests.{true-false, or-false}
 use Rattle.line.specs.declared.settings.Settings.{Settings}
 use Rattle.line.specs.Systems.{systemOf}
 use Rattle.line.specs.Settings.{Held, sameSettings}
+use Rattle.line.proofs.SettingsLaws.{same-block}
 use Rattle.course.specs.declared.Place.{Place}
 use Rattle.course.specs.declared.Place.the-variants.{Shut, At}
 use Rattle.course.specs.Course.{isAt}
-use Rattle.writer.specs.declared.state.Rest.the-variants.{Part}
 use Rattle.writer.specs.declared.state.Answer.the-variants.{Done}
 use Rattle.writer.specs.State.{isPart}
 use Rattle.writer.specs.Answers.{Left, left}
@@ -21,12 +21,11 @@ use Rattle.writer.specs.Opening.{isNext, openBlocked, openState, openWords, ope
 use Rattle.writer.proofs.Keeps.{open-clear, open-leaves}
 use Rattle.writer.proofs.Refusals.{CanOpen, can-open}
 use Rattle.writer.proofs.Stays.{open-possible}
-use Rattle.writer.proofs.Pieces.{open-goes}
 use Rattle.writer.proofs.Writing.{opened-line}
 use Rattle.demands.specs.Sending.{Desk, openedBy}
 use Rattle.demands.proofs.DeskOk.{DeskOk}
 use Rattle.demands.proofs.Outcomes.{Opens}
-use Rattle.demands.proofs.DeskCalls.{own, by-own, owing-stays}
+use Rattle.demands.proofs.DeskCalls.{own, by-own, owes-stays}
 
 -- ---- what 20 lets pass
 is-shut : (p : Place) → isAt p ≡ false → p ≡ Shut
@@ -62,29 +61,18 @@ module _ (d : Desk) (f v : Bool) (n : ℕ) (t : Settings) (lent : List ℕ) (don
   own-opened : Held t → DeskOk (d .writer .system) (d .writer .mode) d
       → DeskOk (d .writer .system) (d .writer .mode) (openedBy Done (opening (d .writer) f v n t lent) d f v n t)
   own-opened held ok =
-      let rest : opening (d .writer) f v n t lent .state .rest ≡ d .writer .rest = own-opens .rest in
       let line = opened-line (d .writer) f v n t lent done in
       record {
         of-system = line .of-system;
-        of-mode = line .of-mode;
         possible = open-possible (d .writer) f v n t lent (ok .possible);
         opened = λ at. record {
           is-open = line;
-          held = held;
-          known = finds .known;
-          moded = finds .moded;
-          row = finds .row;
-          clean = finds .clean;
-          one = finds .one;
-          most-lines = finds .last;
+          openable = record { held = held; known = finds .known; moded = finds .moded; row = finds .row; clean = finds .clean; one = finds .one; most-lines = finds .last };
           last-is = own-opens .last;
           placed = λ fixed. tt;
         };
-        none-owing = λ r. ok .none-owing (sym rest ∙ r);
-        owing = λ kind m j r.
-            let part : d .writer .rest ≡ Part kind m j = sym rest ∙ r in
-            owing-stays (d .writer .mode) d (opening (d .writer) f v n t lent .state) _ (d .closed) kind m j
-            (open-goes (d .writer) f v n t lent (ap isPart part) .block) (ok .owing kind m j part);
+        owes = owes-stays (d .writer .mode) d (opening (d .writer) f v n t lent .state) _ (d .closed) (line .of-mode) (own-opens .rest)
+            (λ part. ap (λ (u : Settings). u .block) (own-opens .settings) ∙ same-block t (d .writer .settings) (own-opens .goes-on part .0)) (ok .owes);
       }
 
 -- ---- an accepted opening

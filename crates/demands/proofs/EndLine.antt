@@ -1,13 +1,12 @@
--- A line closed: what the reader hears of it where it is kept, and what holds between this line and the next, whatever its fate.
+-- A line closed: what the ear hears of it where it is kept, and what holds between this line and the next, whatever its fate.
 -- Assumes nothing.
 use Prim.Native.Nat.{ℕ, zero, suc, _+_, _-_, _*_, _≤_}
-use mathlib.Core.Bool.{Bool, true, false, not}
+use mathlib.Core.Bool.{Bool, true, false}
 use mathlib.Core.List.{List, [], _++_, append-nil}
 use mathlib.Core.Path.{_≡_, refl, sym, ap, ap₂, _∙_, subst}
 use native.Mathlib.Nat.{add-zero, add-mul}
 use native.Mathlib.Omega.{arith}
 use lib.ListN.{length, take, replicate}
-use Rattle.lists.specs.Tests.{pick}
 use Rattle.lists.specs.Lists.{part}
 use Rattle.lists.proofs.Lists.{part-part}
 use Rattle.lists.proofs.Tests.{true-false, pick-true, pick-false}
@@ -15,26 +14,18 @@ use Rattle.line.specs.declared.settings.Settings.{Settings}
 use Rattle.line.specs.Systems.{systemOf}
 use Rattle.line.specs.Fixed.{isVariable, placesOf, sizeOf}
 use Rattle.line.specs.Layout.{payloadAt, areaLength, areaOf}
-use Rattle.line.specs.Check.{numberOf, settingsOf, fitsLength, fits, lineFault, checkedFrom, checkedOf}
+use Rattle.line.specs.Check.{numberOf, settingsOf, fits, lineFault, checkedFrom, checkedOf}
 use Rattle.line.specs.declared.check.Checked.{Checked}
-use Rattle.course.specs.declared.Last.{Last}
 use Rattle.course.specs.declared.Last.the-variants.{Number}
-use Rattle.course.specs.declared.Place.the-variants.{Shut, At}
 use Rattle.course.specs.Course.{isAt, blocksEnd}
 use Rattle.course.proofs.CourseLaws.{end-in-area, start-placed, grid-some}
-use Rattle.writer.specs.declared.state.Rest.{Rest}
-use Rattle.writer.specs.declared.state.Rest.the-variants.{Whole, Part}
 use Rattle.writer.specs.declared.state.Answer.the-variants.{Done}
 use Rattle.writer.specs.State.{isPart}
 use Rattle.writer.specs.Closing.{closing}
 use Rattle.writer.specs.Course.{joined, areaFrom}
 use Rattle.reader.specs.declared.machine.Phase.{Phase}
 use Rattle.reader.specs.declared.machine.Phase.the-variants.{Idle}
-use Rattle.reader.specs.declared.state.Reader.{Reader}
-use Rattle.reader.specs.State.{capacity}
 use Rattle.reader.specs.Places.{placesIn}
-use Rattle.reader.specs.Reading.{readFault}
-use Rattle.reader.proofs.Ends.{unfaulted}
 use Rattle.demands.specs.Sending.{Desk, closedBy}
 use Rattle.demands.specs.Hearing.{Heard}
 use Rattle.demands.specs.Damage.{allOn, survivors}
@@ -43,11 +34,13 @@ use Rattle.demands.proofs.RunLaws.{run-to-append, run-out-append}
 use Rattle.demands.proofs.BlockRun.{filler-out, filler-to}
 use Rattle.demands.proofs.PlaceRun.{empties, places-out-append, places-to-append, places-empty, places-stay, places-of, places-cut}
 use Rattle.demands.proofs.LineRun.{leftOut, leftTo, blockPart, areaOut, areaTo}
+use Rattle.demands.proofs.Ear.{Ear, own, refusal, inputBy, inputOf}
 use Rattle.demands.proofs.DeskOk.{OpenNow, DeskOk}
 use Rattle.demands.proofs.Outcomes.{Closes}
+use Rattle.demands.proofs.DeskCalls.{shut-at, none-left, fixed-none}
 use Rattle.demands.proofs.DeskCloses.{long-joined}
-use Rattle.demands.proofs.Ahead.{blocksHeard, Matches, ByWords, ByPlaces, Inside, Between, Listens, Ahead}
-use Rattle.demands.proofs.StartLine.{part-none, idle-behind, matches-idle}
+use Rattle.demands.proofs.Ahead.{blocksHeard, Matches, ByWords, ByPlaces, Inside, isKnown, Between, Listens, Ahead}
+use Rattle.demands.proofs.StartLine.{idle-behind, matches-idle}
 
 -- ---- what the line check found
 fault-none : (line : List ℕ) (k : ℕ) → checkedFrom k line .fault ≡ 0 → k ≡ 0
@@ -66,14 +59,25 @@ found system mode n t line e =
     let k : checkedFrom 0 line ≡ record { fault = 0; number = n; settings = t } = sym (ap (λ (i : ℕ). checkedFrom i line) z) ∙ e in
     record { clear = z; number = ap (λ (c : Checked). c .number) k; settings = ap (λ (c : Checked). c .settings) k }
 
--- a line of the system's length is served
-pub serves : (system mode : ℕ) (before : Last) (st : Reader) (line room : List ℕ) → fitsLength system mode (length line) ≡ true
-    → Listens system mode before st room → readFault st (length line) (length room) ≡ 0
-serves system mode before st line room fit l =
-    unfaulted st line room
-    (record { fit = ap₂ (λ (s m : ℕ). fitsLength s m (length line)) (l .of-system) (l .of-mode) ∙ fit; long = l .long; state = l .possible })
+-- what an accepted line and a refused one are to the ear
+pub own-input : (system mode n : ℕ) (t : Settings) (line : List ℕ) → fits system mode line ≡ true → Found system mode n t line
+    → inputOf system mode line ≡ own n t (blockPart system t line)
+unfolding inputOf
+own-input system mode n t line fit f =
+    pick-true _ _ fit
+    ∙ ap (λ (k : ℕ). inputBy system k line) (f .clear)
+    ∙ ap₂ (λ (i : ℕ) (u : Settings). own i u (blockPart system u line)) (f .number) (f .settings)
 
-module _ (system mode : ℕ) (keeps : ℕ → Bool) (d : Desk) (dk : DeskOk system mode d) (o : OpenNow system mode d) (c : Closes system mode d) (q : Now) where
+refused-by : (system : ℕ) (line : List ℕ) (k : ℕ) → (k ≡ 0 → ⊥) → inputBy system k line ≡ refusal k
+refused-by system line zero h = absurd (h refl)
+refused-by system line (suc k) h = refl
+
+pub refusal-input : (system mode : ℕ) (line : List ℕ) → fits system mode line ≡ true → (lineFault system mode line ≡ 0 → ⊥)
+    → inputOf system mode line ≡ refusal (lineFault system mode line)
+unfolding inputOf
+refusal-input system mode line fit bad = pick-true _ _ fit ∙ refused-by system line (lineFault system mode line) bad
+
+module _ (system mode cap : ℕ) (keeps : ℕ → Bool) (d : Desk) (dk : DeskOk system mode d) (o : OpenNow system mode d) (c : Closes system mode d) (q : Now) where
   abbrev t : Settings
   t = d .now .settings
 
@@ -86,16 +90,13 @@ module _ (system mode : ℕ) (keeps : ℕ → Bool) (d : Desk) (dk : DeskOk syst
   abbrev line : List ℕ
   line = closing (d .writer) (d .now .words) .line
 
-  none-left : isPart (d .writer .rest) ≡ false → d .pieces ≡ []
-  none-left e = dk .none-owing (part-none (d .writer .rest) e)
-
   -- ---- a variable line: what was laid, and filler
   variable-words : isVariable (d .now .settings .block) ≡ true → blockPart system (d .now .settings) line ≡ area
   unfolding areaOf blocksEnd
   variable-words v =
       ap (λ (n : ℕ). part (payloadAt (systemOf system)) n line) (pick-true (areaLength payload (t .flag)) (placesOf payload (t .block) * sizeOf (t .block)) v) ∙ c .accepts .area-back
 
-  module _ (w : ByWords mode keeps d q) where
+  module _ (w : ByWords mode cap keeps d q) where
     mid : Now
     mid = runTo mode q (joined (d .now .pieces))
 
@@ -113,7 +114,7 @@ module _ (system mode : ℕ) (keeps : ℕ → Bool) (d : Desk) (dk : DeskOk syst
             let z : count ≡ 0 = omega arith in
             (ap (λ (n : ℕ). runOut mode mid (replicate n 0x200)) z, ap (λ (n : ℕ). runTo mode mid (replicate n 0x200)) z)
         by false e =
-            let i = idle-behind mode keeps (d .pieces) mid (none-left e) (w .matches) in
+            let i = idle-behind mode cap keeps (d .pieces) mid (none-left system mode d dk e) (w .matches) in
             let m : mid ≡ idle (mid .room) = ap (λ (p : Phase). now p (mid .room)) i in (
               ap (λ (x : Now). runOut mode x (replicate count 0x200)) m ∙ filler-out mode count (mid .room),
               ap (λ (x : Now). runTo mode x (replicate count 0x200)) m ∙ filler-to mode count (mid .room) ∙ sym m,
@@ -129,7 +130,7 @@ module _ (system mode : ℕ) (keeps : ℕ → Bool) (d : Desk) (dk : DeskOk syst
     words-left = run-to-append mode q (joined (d .now .pieces)) (replicate count 0x200) ∙ filler-says .1
 
   -- ---- a fixed line: its places, and empty ones
-  module _ (v : isVariable (d .now .settings .block) ≡ false) (w : ByPlaces mode keeps d q) where
+  module _ (v : isVariable (d .now .settings .block) ≡ false) (w : ByPlaces mode cap keeps d q) where
     abbrev size : ℕ
     size = sizeOf (d .now .settings .block)
 
@@ -137,14 +138,14 @@ module _ (system mode : ℕ) (keeps : ℕ → Bool) (d : Desk) (dk : DeskOk syst
     places = placesOf (systemOf system .payload) (d .now .settings .block)
 
     some-size : 1 ≤ sizeOf (d .now .settings .block)
-    some-size = grid-some payload (t .block) (t .flag) 0 v (start-placed system t (o .clean)) .0
+    some-size = grid-some payload (t .block) (t .flag) 0 v (start-placed system t (o .openable .clean)) .0
 
     end-is : blocksEnd payload (t .block) (t .flag) ≡ places * size
     unfolding blocksEnd
     end-is = pick-false (areaLength payload (t .flag)) (placesOf payload (t .block) * sizeOf (t .block)) v
 
     in-area : places * size ≤ areaLength payload (t .flag)
-    in-area = subst (λ (n : ℕ). n ≤ areaLength payload (t .flag)) end-is (end-in-area system t (o .known) (o .clean))
+    in-area = subst (λ (n : ℕ). n ≤ areaLength payload (t .flag)) end-is (end-in-area system t (o .openable .known) (o .openable .clean))
 
     fixed-words : blockPart system (d .now .settings) line ≡ take (places * size) area
     unfolding areaOf
@@ -188,14 +189,10 @@ module _ (system mode : ℕ) (keeps : ℕ → Bool) (d : Desk) (dk : DeskOk syst
         ∙ places-stay mode size empty _ some-size
 
     none-owing : d .pieces ≡ []
-    none-owing = by (d .writer .rest) refl
-      where
-        by : (r : Rest) → d .writer .rest ≡ r → d .pieces ≡ []
-        by Whole h = dk .none-owing h
-        by (Part i m j) h = absurd (true-false (sym (dk .owing i m j h .variable) ∙ ap (λ (u : Settings). isVariable (u .block)) (c .settings-are) ∙ v))
+    none-owing = fixed-none system mode d dk (ap (λ (u : Settings). isVariable (u .block)) (c .settings-are) ∙ v)
 
   -- ---- any line
-  pub area-heard : Inside mode keeps d q → areaOut (systemOf system .payload) mode (d .now .settings) q (blockPart system (d .now .settings) (closing (d .writer) (d .now .words) .line)) ≡ blocksHeard (survivors keeps (d .now .blocks))
+  pub area-heard : Inside mode cap keeps d q → areaOut (systemOf system .payload) mode (d .now .settings) q (blockPart system (d .now .settings) (closing (d .writer) (d .now .words) .line)) ≡ blocksHeard (survivors keeps (d .now .blocks))
   unfolding leftOut
   area-heard i = by (isVariable (t .block)) refl
     where
@@ -203,35 +200,32 @@ module _ (system mode : ℕ) (keeps : ℕ → Bool) (d : Desk) (dk : DeskOk syst
       by true v = pick-true _ _ v ∙ ap (runOut mode q) (variable-words v) ∙ words-heard (i .by-words v)
       by false v = pick-false _ _ v ∙ places-heard v (i .by-places v)
 
-  pub area-left : Inside mode keeps d q → Matches mode keeps (d .pieces) (areaTo (systemOf system .payload) mode (d .now .settings) q (blockPart system (d .now .settings) (closing (d .writer) (d .now .words) .line)))
+  pub area-left : Inside mode cap keeps d q → Matches mode cap keeps (d .pieces) (areaTo (systemOf system .payload) mode (d .now .settings) q (blockPart system (d .now .settings) (closing (d .writer) (d .now .words) .line)))
   unfolding leftTo mid
   area-left i = by (isVariable (t .block)) refl
     where
-      by : (b : Bool) → isVariable (t .block) ≡ b → Matches mode keeps (d .pieces) (areaTo payload mode t q (blockPart system t line))
+      by : (b : Bool) → isVariable (t .block) ≡ b → Matches mode cap keeps (d .pieces) (areaTo payload mode t q (blockPart system t line))
       by true v =
-          subst (Matches mode keeps (d .pieces)) (sym (pick-true _ _ v ∙ ap (runTo mode q) (variable-words v) ∙ words-left (i .by-words v))) (i .by-words v .matches)
+          subst (Matches mode cap keeps (d .pieces)) (sym (pick-true _ _ v ∙ ap (runTo mode q) (variable-words v) ∙ words-left (i .by-words v))) (i .by-words v .matches)
       by false v =
           let w = i .by-places v in
-          subst (Matches mode keeps (d .pieces))
+          subst (Matches mode cap keeps (d .pieces))
           (sym (pick-false _ _ v ∙ ap (now (q .phase)) (places-left v w)))
-          (matches-idle mode keeps (d .pieces) (now (q .phase) (placesTo mode (q .room) (d .now .pieces))) (none-owing v w) (w .phase) (w .long))
+          (matches-idle mode cap keeps (d .pieces) (now (q .phase) (placesTo mode (q .room) (d .now .pieces))) (none-owing v w) (w .phase) (w .long))
 
 -- ---- between this line and the next
-shut-at : (p : ℕ) → Shut ≡ At p → ⊥
-shut-at p e = true-false (sym (ap isAt e))
-
-module _ (system mode : ℕ) (keeps : ℕ → Bool) (d : Desk) (c : Closes system mode d) where
+module _ (system mode cap : ℕ) (keeps : ℕ → Bool) (told : Bool) (d : Desk) (c : Closes system mode d) where
   abbrev next : Desk
   next = closedBy Done (closing (d .writer) (d .now .words)) d
 
-  pub shut-ahead : (before : Last) (gone : Bool) (st : Reader) (room : List ℕ) → Listens system mode before st room
-      → Between mode keeps (closedBy Done (closing (d .writer) (d .now .words)) d) st room gone
-      → Ahead system mode keeps before gone (closedBy Done (closing (d .writer) (d .now .words)) d) st room
-  shut-ahead before gone st room l b = record {
+  pub shut-ahead : (gone : Bool) (ear : Ear) → Listens (systemOf system .lines) cap ear
+      → Between mode cap keeps told (closedBy Done (closing (d .writer) (d .now .words)) d) ear gone
+      → Ahead system mode cap keeps told gone (closedBy Done (closing (d .writer) (d .now .words)) d) ear
+  shut-ahead gone ear l b = record {
     listens = l;
     between = λ e. b;
     inside = λ e k h. absurd (true-false (sym e ∙ ap isAt (c .state-place)));
-    quiet = λ e g. absurd (true-false (sym e ∙ ap isAt (c .state-place)));
+    none-dropped = λ e h g. absurd (true-false (sym e ∙ ap isAt (c .state-place)));
     missing = λ k p e least part. absurd (shut-at p (sym (c .state-place) ∙ e));
   }
 
@@ -239,31 +233,31 @@ module _ (system mode : ℕ) (keeps : ℕ → Bool) (d : Desk) (c : Closes syste
   still-part e = sym (ap isPart (c .state-rest)) ∙ e
 
   -- the line was kept
-  pub kept-between : (st : Reader) (room : List ℕ) → Matches mode keeps (d .pieces) (now (st .phase) room) → st .last ≡ Number (d .now .number) → st .settings ≡ d .now .settings
-      → Between mode keeps (closedBy Done (closing (d .writer) (d .now .words)) d) st room false
-  kept-between st room m l s = record {
+  pub kept-between : (ear : Ear) → Matches mode cap keeps (d .pieces) (now (ear .phase) (ear .room)) → ear .last ≡ Number (d .now .number) → ear .settings ≡ d .now .settings
+      → Between mode cap keeps told (closedBy Done (closing (d .writer) (d .now .words)) d) ear false
+  kept-between ear m l s = record {
     here = λ g. m;
-    same = λ g e w. (l ∙ sym (c .state-last ∙ c .last-is), s ∙ sym (c .state-settings ∙ c .settings-are));
+    same = λ g e w. record { known = ap isKnown l; last = λ z. l ∙ sym (c .state-last ∙ c .last-is); settings = s ∙ sym (c .state-settings ∙ c .settings-are) };
     away = λ g e. absurd (true-false (sym g));
   }
 
   -- it was not: an unfinished block has lost words
-  pub removed-between : (st : Reader) (room : List ℕ) → (isPart (d .writer .rest) ≡ true → allOn keeps (d .pieces) ≡ false)
-      → Between mode keeps (closedBy Done (closing (d .writer) (d .now .words)) d) st room true
-  removed-between st room h = record {
+  pub removed-between : (ear : Ear) → (isPart (d .writer .rest) ≡ true → allOn keeps (d .pieces) ≡ false)
+      → Between mode cap keeps told (closedBy Done (closing (d .writer) (d .now .words)) d) ear true
+  removed-between ear h = record {
     here = λ g. absurd (true-false g);
     same = λ g e w. absurd (true-false g);
     away = λ g e. h (still-part e);
   }
 
-  pub replaced-between : (st : Reader) (room : List ℕ) → DeskOk system mode d → st .phase ≡ Idle → length room ≡ capacity → (isPart (d .writer .rest) ≡ true → allOn keeps (d .pieces) ≡ false)
-      → Between mode keeps (closedBy Done (closing (d .writer) (d .now .words)) d) st room false
-  replaced-between st room dk i l h = record {
+  pub replaced-between : (ear : Ear) → DeskOk system mode d → ear .phase ≡ Idle → length (ear .room) ≡ cap → (isPart (d .writer .rest) ≡ true → allOn keeps (d .pieces) ≡ false)
+      → Between mode cap keeps told (closedBy Done (closing (d .writer) (d .now .words)) d) ear false
+  replaced-between ear dk i l h = record {
     here = λ g. by (isPart (d .writer .rest)) refl;
     same = λ g e w. absurd (true-false (sym w ∙ h (still-part e)));
     away = λ g e. absurd (true-false (sym g));
   }
     where
-      by : (b : Bool) → isPart (d .writer .rest) ≡ b → Matches mode keeps (d .pieces) (now (st .phase) room)
+      by : (b : Bool) → isPart (d .writer .rest) ≡ b → Matches mode cap keeps (d .pieces) (now (ear .phase) (ear .room))
       by true e = record { long = l; whole = λ w. absurd (true-false (sym w ∙ h e)); lost = λ w. i }
-      by false e = matches-idle mode keeps (d .pieces) (now (st .phase) room) (dk .none-owing (part-none (d .writer .rest) e)) i l
+      by false e = matches-idle mode cap keeps (d .pieces) (now (ear .phase) (ear .room)) (none-left system mode d dk e) i l

@@ -95,7 +95,7 @@ open-long d ok at =
     let fill : List ℕ = replicate (1440 - length a) 0x200 in
     let whole : length (d .now .words) ≡ length h + length (a ++ fill) =
     ap length (o .is-open .is ∙ framed-front (systemOf 0) (s .f) (s .v) (s .number) (s .settings) (a ++ fill)) ∙ length-append h (a ++ fill) in
-    let before : length h ≡ 276 = front-length (systemOf 0) (s .f) (s .v) (s .number) (s .settings) (o .held) (o .row .room) in
+    let before : length h ≡ 276 = front-length (systemOf 0) (s .f) (s .v) (s .number) (s .settings) (o .openable .held) (o .openable .row .room) in
     let laid = length-append a fill in
     let filled : length {A = ℕ} (replicate (1440 - length a) 0x200) ≡ 1440 - length a = length-replicate (1440 - length a) 0x200 in
     omega (arith, o .is-open .within, area-most 1440 (s .settings .flag))

@@ -22,13 +22,15 @@ use Rattle.writer.specs.Course.{asLaid}
 use Rattle.writer.proofs.Framing.{take-filler, drop-filler}
 use Rattle.writer.proofs.Legal.{each-filler}
 use Rattle.reader.specs.State.{capacity, fresh}
+use Rattle.demands.specs.All.{All}
 use Rattle.demands.specs.Sending.{Call, Block, Sent, start, sentBy, sentFresh, blocksOf}
 use Rattle.demands.specs.Hearing.{Heard, Reads, handedOut}
-use Rattle.demands.specs.Damage.{Fate, kept, removed, replaced, remain, Refusing, RunsBelow, keptAt, survivors}
-use Rattle.demands.specs.Demand2.{AreLines, givenBack}
+use Rattle.demands.specs.Damage.{Fate, kept, removed, remain, RefusedIfReplaced, runFrom, keptAt, survivors}
+use Rattle.demands.specs.Demand2.{IsLine, givenBack}
 use Rattle.demands.specs.Demand3.{Follows, Consecutive, HandsOut}
+use Rattle.demands.proofs.AllLaws.{all-behind}
 use Rattle.demands.proofs.LineEnds.{readable}
-use Rattle.demands.proofs.DeskLaws.{start-ok}
+use Rattle.demands.proofs.DeskStart.{start-ok}
 use Rattle.demands.proofs.PieceRun.{all-lost}
 use Rattle.demands.proofs.Demand2Holds.{demand-2}
 use Rattle.demands.proofs.FrameCourse.{one-set, desk, Values, head-of, tail-of, piece, block-line, fillers, first-of, second-of, Lays, block-sent, Fillers, fillers-sent, none-sent}
@@ -37,38 +39,14 @@ use Rattle.demands.proofs.FrameCourse.{one-set, desk, Values, head-of, 
 abbrev fates : ℕ → List Fate
 fates n = kept ∷ (replicate n removed ++ (kept ∷ []))
 
--- how many lines are removed
-gone : List Fate → ℕ
-gone [] = 0
-gone (kept ∷ fs) = gone fs
-gone (removed ∷ fs) = suc (gone fs)
-gone (replaced ws ∷ fs) = gone fs
+-- that run is the longest
+run-is : (r n : ℕ) → runFrom r (replicate n removed ++ (kept ∷ [])) ≡ r + n
+run-is r zero = omega arith
+run-is r (suc n) = omega (arith, run-is (suc r) n)
 
-gone-append : (xs ys : List Fate) → gone (xs ++ ys) ≡ gone xs + gone ys
-unfolding gone
-gone-append [] ys = omega arith
-gone-append (kept ∷ xs) ys = gone-append xs ys
-gone-append (removed ∷ xs) ys = omega (arith, gone-append xs ys)
-gone-append (replaced ws ∷ xs) ys = gone-append xs ys
-
-gone-run : (n : ℕ) → gone (replicate n removed) ≡ n
-unfolding gone
-gone-run zero = refl
-gone-run (suc n) = ap suc (gone-run n)
-
--- no run is longer than n lines
-runs-below : (n : ℕ) → RunsBelow (suc n) (fates n)
-unfolding gone
-runs-below n before behind e =
-    let a = gone-append (replicate n removed) (kept ∷ []) in
-    let b = gone-append before (replicate (suc n) removed ++ behind) in
-    let c = gone-append (replicate (suc n) removed) behind in
-    let d : gone (fates n) ≡ gone (before ++ (replicate (suc n) removed ++ behind)) = ap gone e in
-    omega (arith, a, b, c, d, gone-run n, gone-run (suc n))
-
-refusing : (n : ℕ) → Refusing 0 8 (replicate n removed ++ (kept ∷ []))
-refusing zero = tt
-refusing (suc n) = refusing n
+refusing : (n : ℕ) → All (RefusedIfReplaced 0 8) (replicate n removed ++ (kept ∷ []))
+refusing zero = (tt, tt)
+refusing (suc n) = (tt, refusing n)
 
 lost-at : (n j : ℕ) (fs : List Fate) → j < n → keptAt (replicate n removed ++ fs) j ≡ false
 lost-at zero j fs h = absurd (omega arith)
@@ -81,10 +59,6 @@ left-of zero [] ys fs e = refl
 left-of zero (x ∷ xs) ys fs e = absurd (omega arith)
 left-of (suc n) [] ys fs e = absurd (omega arith)
 left-of (suc n) (x ∷ xs) ys fs e = left-of n xs ys fs (omega arith)
-
-lines-behind : (xs ys : List Sent) → AreLines 0 (xs ++ ys) → AreLines 0 ys
-lines-behind [] ys h = h
-lines-behind (x ∷ xs) ys h = lines-behind xs ys (h .1)
 
 module _ (lent : List ℕ) (lent-long : length lent ≡ 1716) (a b : List ℕ) (va : Values a) (vb : Values b) where
   -- ---- the lines: a block on lines 1 and 2, no block on lines 3 to 525, another block on lines 1 and 2 of the next frame
@@ -169,9 +143,9 @@ module _ (lent : List ℕ) (lent-long : length lent ≡ 1716) (a b : List ℕ) (
   -- a line's words are those of its number, its settings and what was laid on it
   same-words : (c : Sends) (x : Mixes) → (c .w₀ ≡ x .w₀) × (c .w₃ ≡ x .w₁)
   same-words c x =
-      let h : AreLines 0 (its-lines c) = subst (AreLines 0) (c .is) (demand-2 .lines 0 8 calls) in
-      let k : AreLines 0 (first-of a (x .w₀) ∷ (second-of 0 a b (x .w₁) ∷ [])) = subst (AreLines 0) (x .is) (demand-2 .lines 0 8 mixed) in
-      let e = lines-behind (c .between) (first-of b (c .w₂) ∷ (second-of 525 b b (c .w₃) ∷ [])) (h .1 .1) in
+      let h : All (IsLine 0) (its-lines c) = subst (All (IsLine 0)) (c .is) (demand-2 .lines 0 8 calls) in
+      let k : All (IsLine 0) (first-of a (x .w₀) ∷ (second-of 0 a b (x .w₁) ∷ [])) = subst (All (IsLine 0)) (x .is) (demand-2 .lines 0 8 mixed) in
+      let e = all-behind (IsLine 0) (c .between) (first-of b (c .w₂) ∷ (second-of 525 b b (c .w₃) ∷ [])) (h .1 .1) in
       (h .0 ∙ sym (k .0), e .1 .0 ∙ sym (k .1 .0))
 
   remain-is : (c : Sends) (x : Mixes) → remain (fates 525) (sentFresh 0 8 calls) ≡ map (λ (s : Sent). s .words) (sentFresh 0 8 mixed)
@@ -233,8 +207,8 @@ module _ (lent : List ℕ) (lent-long : length lent ≡ 1716) (a b : List ℕ) (
       (record {
         numbers = subst (Consecutive 525) (sym (c .is)) (consecutive c);
         each-line = each-line c ∙ ap length (sym (c .is));
-        runs = runs-below 525;
-        refusing = refusing 525;
+        runs = omega (arith, run-is 0 525);
+        refusing = (tt, refusing 525);
       }) room long (r .heard) (r .reads) in
       one-not-none _ (handedOut (r .heard)) (one-handed room long (r .heard) (r .reads))
       (says ∙ ap (λ (l : List Sent). survivors (keptAt (fates 525)) (blocksOf l)) (c .is) ∙ none-survive (keptAt (fates 525)) first-lost other-lost c)

@@ -5,44 +5,31 @@ use mathlib.Core.Bool.{Bool, true, false, _||_}
 use mathlib.Core.List.{List, [], _∷_, _++_}
 use Prim.Native.Nat.{ℕ, zero, suc, _+_, _≤_}
 use native.Mathlib.Omega.{arith}
-use lib.Dec.{eqb}
 use lib.ListN.{length}
-use borrow.Author.Tests.{eqb-true}
-use Rattle.lists.proofs.Tests.{true-false, pick-false}
+use Rattle.lists.proofs.Tests.{true-false}
 use Rattle.line.specs.Systems.{systemOf}
 use Rattle.line.specs.Layout.{areaLength}
 use Rattle.line.specs.Check.{settingsOf, lineFault}
 use Rattle.course.specs.declared.Place.the-variants.{Shut}
 use Rattle.reader.specs.declared.state.Reader.{Reader}
-use Rattle.reader.specs.Reading.{Call, readFault, reading}
+use Rattle.reader.specs.Reading.{readFault, reading}
 use Rattle.reader.specs.Lending.{isLast, endsWithin}
 use Rattle.reader.proofs.Ends.{line-ends}
 use Rattle.demands.specs.Hearing.{Heard, Lends, last, more, done, next, Readable}
-use Rattle.demands.proofs.LineLends.{hears, refuses-line}
+use Rattle.demands.proofs.LineLends.{hears, refuses-line, leaves-line}
 
 -- ---- behind a line no line is begun
--- refused with 1 or 2: at once, and everything is left
-faulted-last : (st : Reader) (line room : List ℕ) → eqb (readFault st (length line) (length room)) 0 ≡ false
-    → (isLast (reading st line room .told .event) ≡ true) × (reading st line room .told .state ≡ st)
-unfolding reading
-faulted-last st line room e = (ap (λ (z : Call). isLast (z .told .event)) (pick-false _ _ e), ap (λ (z : Call). z .told .state) (pick-false _ _ e))
-
-faulted-shut : (st : Reader) (line room : List ℕ) (hs : List Heard) (st′ : Reader) (room′ : List ℕ) → st .place ≡ Shut
-    → eqb (readFault st (length line) (length room)) 0 ≡ false → Lends line st room hs st′ room′ → st′ .place ≡ Shut
-faulted-shut st line room hs st′ room′ at e (last h) = ap (λ (x : Reader). x .place) (faulted-last st line room e .1) ∙ at
-faulted-shut st line room hs st′ room′ at e (more h k) = absurd (true-false (sym (faulted-last st line room e .0) ∙ h))
-
 pub shut-after : (st : Reader) (line room : List ℕ) (hs : List Heard) (st′ : Reader) (room′ : List ℕ) → st .place ≡ Shut
     → Lends line st room hs st′ room′ → st′ .place ≡ Shut
-shut-after st line room hs st′ room′ at lent = go (eqb (readFault st (length line) (length room)) 0) refl
+shut-after st line room hs st′ room′ at lent = go (readFault st (length line) (length room)) refl
   where
     by : readFault st (length line) (length room) ≡ 0 → (k : ℕ) → lineFault (st .system) (st .mode) line ≡ k → st′ .place ≡ Shut
     by fit zero is = ap (λ (x : Reader). x .place) (hears st line room hs st′ room′ fit at is lent .state)
     by fit (suc k) is = ap (λ (x : Reader). x .place) (refuses-line st line room hs st′ room′ fit at (suc k) is (λ z. omega arith) lent .state)
 
-    go : (b : Bool) → eqb (readFault st (length line) (length room)) 0 ≡ b → st′ .place ≡ Shut
-    go true e = by (eqb-true _ 0 e) _ refl
-    go false e = faulted-shut st line room hs st′ room′ at e lent
+    go : (n : ℕ) → readFault st (length line) (length room) ≡ n → st′ .place ≡ Shut
+    go zero e = by e _ refl
+    go (suc k) e = ap (λ (x : Reader). x .place) (leaves-line st line room hs st′ room′ k e lent .state) ∙ at
 
 -- ---- how many calls
 -- the first of n + 1 calls is not the last: one of the n that follow is
@@ -83,9 +70,9 @@ lends-exist (suc n) st line room e =
 
 -- any lines can be lent once each and in order
 pub readable : (st : Reader) (room : List ℕ) (lines : List (List ℕ)) → st .place ≡ Shut → Readable st room lines
-readable st room [] at = record { heard = []; reads = done }
+readable st room [] at = record { heard = []; reads = record { st′ = st; room′ = room; reads-to = done } }
 readable st room (line ∷ lines) at =
     let calls = areaLength (systemOf (st .system) .payload) (settingsOf line .flag) + 2 in
     let l = lends-exist calls st line room (line-ends st line room at) in
     let r = readable (l .st′) (l .room′) lines (shut-after st line room (l .hs) (l .st′) (l .room′) at (l .lends)) in
-    record { heard = l .hs ++ r .heard; reads = next (l .lends) (r .reads) }
+    record { heard = l .hs ++ r .heard; reads = record { st′ = r .reads .st′; room′ = r .reads .room′; reads-to = next (l .lends) (r .reads .reads-to) } }

@@ -1,4 +1,5 @@
 -- A line lent until its end is reported: an accepted one, call by call, tells what the run over its area says; a refused one is refused at once.
+-- So the calls do to the reader what the line does to an ear (Ear.antt).
 -- Assumes nothing.
 use mathlib.Core.Path.{_≡_, refl, sym, ap, ap₂, _∙_, subst}
 use mathlib.Core.Bool.{Bool, true, false}
@@ -6,6 +7,7 @@ use mathlib.Core.List.{List, [], _∷_, _++_}
 use Prim.Native.Nat.{ℕ, zero, suc, _+_, _-_, _*_, _/_, _≤_}
 use native.Mathlib.Nat.{zero-mul, suc-mul, add-zero, zero-div, add-mul-div-right}
 use native.Mathlib.Omega.{arith}
+use lib.Dec.{eqb, eqb·suc-zero}
 use lib.ListN.{length, take, drop, length-drop}
 use lib.Seq.{length-take-le, drop-length, drop-drop}
 use Rattle.lists.specs.Tests.{pick}
@@ -15,7 +17,6 @@ use Rattle.line.specs.Systems.{systemOf}
 use Rattle.line.specs.Fixed.{isVariable, placesOf, sizeOf}
 use Rattle.line.specs.Layout.{payloadAt}
 use Rattle.line.specs.Check.{numberOf, settingsOf, fits, lineFault}
-use Rattle.course.specs.declared.Last.the-variants.{Number}
 use Rattle.course.specs.declared.Place.{Place}
 use Rattle.course.specs.declared.Place.the-variants.{Shut, At}
 use Rattle.course.specs.Course.{blocksEnd}
@@ -23,20 +24,22 @@ use Rattle.reader.specs.declared.machine.Phase.{Phase}
 use Rattle.reader.specs.declared.machine.Met.{Met}
 use Rattle.reader.specs.declared.machine.Met.the-variants.{Nothing, Whole, Lost}
 use Rattle.reader.specs.declared.state.Reader.{Reader}
+use Rattle.reader.specs.declared.state.Event.the-variants.{Refused}
 use Rattle.reader.specs.Walk.{Walk, isNothing, walkOf}
 use Rattle.reader.specs.Places.{placesIn, walkPlaces}
 use Rattle.reader.specs.State.{impossible}
-use Rattle.reader.specs.Reading.{Call, call, becomes, begun, wordsFrom, walkFrom, toldBy, readFault, reading}
+use Rattle.reader.specs.Reading.{Call, call, becomes, goesOn, begun, wordsFrom, walkFrom, toldBy, readFault, reading}
 use Rattle.reader.specs.Lending.{isLast}
 use Rattle.reader.proofs.Ready.{Ready, ready}
 use Rattle.reader.proofs.ReadLaws.{grid}
 use Rattle.reader.proofs.Stays.{read-possible}
 use Rattle.reader.proofs.Accepts.{by-place, accepts, refuses}
 use Rattle.reader.proofs.Ends.{Same, unfaulted, call-moves}
-use Rattle.demands.specs.Hearing.{Heard, is-end, heardOf, hear, Lends, last, more}
+use Rattle.demands.specs.Hearing.{Heard, is-refused, is-end, heardOf, hear, Lends, last, more}
 use Rattle.demands.proofs.Run.{Now, now, metHeard, runTo, runOut, placesTo, placesOut}
 use Rattle.demands.proofs.PlaceRun.{drop-take}
-use Rattle.demands.proofs.LineRun.{leftOut, leftTo, blockPart, areaOut, areaTo, Hears, Refuses}
+use Rattle.demands.proofs.LineRun.{leftOut, leftTo, blockPart, areaOut, areaTo}
+use Rattle.demands.proofs.Ear.{Ear, Input, own, refusal, asReader, heardOfInput, earAfter}
 use Rattle.demands.proofs.DeskOk.{AllLong}
 use Rattle.demands.proofs.WalkRun.{Runs, walk-runs, Passes, places-pass}
 
@@ -271,34 +274,43 @@ from-place st line room hs st′ room′ (more {hs = ks} h k) q at fit =
 
 -- ---- a line from its start on
 -- all places are left, and all words
+all-left : (st : Reader) → placesLeft st 0 ≡ placesOf (systemOf (st .system) .payload) (st .settings .block)
+all-left st = omega (arith, zero-div (sizeOf (st .settings .block)))
+
 rest-out : (st : Reader) (line room : List ℕ)
     → restOut st 0 line room ≡ areaOut (systemOf (st .system) .payload) (st .mode) (st .settings) (now (st .phase) room) (blockPart (st .system) (st .settings) line)
 unfolding restOut
 rest-out st line room =
-    let block = st .settings .block in
-    let all : placesLeft st 0 ≡ placesOf (systemOf (st .system) .payload) block = omega (arith, zero-div (sizeOf block)) in
-    ap₂ (λ (n : ℕ) (ws : List ℕ). leftOut (st .mode) block n (now (st .phase) room) ws) all (words-first st line)
+    ap₂ (λ (n : ℕ) (ws : List ℕ). leftOut (st .mode) (st .settings .block) n (now (st .phase) room) ws) (all-left st) (words-first st line)
 
 rest-to : (st : Reader) (line room : List ℕ)
     → restTo st 0 line room ≡ areaTo (systemOf (st .system) .payload) (st .mode) (st .settings) (now (st .phase) room) (blockPart (st .system) (st .settings) line)
 unfolding restTo
 rest-to st line room =
-    let block = st .settings .block in
-    let all : placesLeft st 0 ≡ placesOf (systemOf (st .system) .payload) block = omega (arith, zero-div (sizeOf block)) in
-    ap₂ (λ (n : ℕ) (ws : List ℕ). leftTo (st .mode) block n (now (st .phase) room) ws) all (words-first st line)
+    ap₂ (λ (n : ℕ) (ws : List ℕ). leftTo (st .mode) (st .settings .block) n (now (st .phase) room) ws) (all-left st) (words-first st line)
+
+-- a reader with no line begun, as an ear
+abbrev pub earOf : Reader → List ℕ → Ear
+earOf st room = record { last = st .last; settings = st .settings; phase = st .phase; room = room }
+
+-- the calls on a line do what the line does to the ear
+pub record Takes (st : Reader) (room : List ℕ) (i : Input) (hs : List Heard) (st′ : Reader) (room′ : List ℕ) : Type 0 where
+  pub heard : hs ≡ heardOfInput (st .system) (st .mode) (earOf st room) i
+  pub state : st′ ≡ asReader (st .system) (st .mode) (earAfter (st .system) (st .mode) (earOf st room) i)
+  pub room-is : room′ ≡ earAfter (st .system) (st .mode) (earOf st room) i .room
 
 -- begun, and then the calls from the line's start to its end
 begun-hears : (st : Reader) (n : ℕ) (t : Settings) (line room : List ℕ) (hs : List Heard) (st′ : Reader) (room′ : List ℕ)
     → ((i : ℕ) → begun st n t .state .place ≡ At i → Rest (begun st n t .state) i line room hs st′ room′)
-    → Hears st n t (blockPart (st .system) t line) room (heardBy (call (begun st n t) room) ∷ hs) st′ room′
-unfolding begun
+    → Takes st room (own n t (blockPart (st .system) t line)) (heardBy (call (begun st n t) room) ∷ hs) st′ room′
+unfolding begun goesOn
 begun-hears st n t line room hs st′ room′ k =
     let f = k 0 refl in
     let first : Reader = begun st n t .state in
     let told : Heard = heardBy (call (begun st n t) room) in
     record {
       heard = ap {B = List Heard} (λ (l : List Heard). told ∷ l) (f .heard ∙ ap {B = List Heard} (λ (l : List Heard). l ++ (is-end ∷ [])) (rest-out first line room));
-      state = f .state ∙ ap (λ (x : Now). becomes st (Number n) t Shut (x .phase)) (rest-to first line room);
+      state = f .state ∙ ap (λ (x : Now). becomes st (first .last) t Shut (x .phase)) (rest-to first line room);
       room-is = f .room-is ∙ ap (λ (x : Now). x .room) (rest-to first line room);
     }
 
@@ -348,27 +360,46 @@ module _ (st : Reader) (line room : List ℕ) (fit : readFault st (length line) 
 
   accepted-more : (hs : List Heard) (st′ : Reader) (room′ : List ℕ)
       → ((i : ℕ) → reading st line room .told .state .place ≡ At i → Rest (reading st line room .told .state) i line (reading st line room .room) hs st′ room′)
-      → Hears st (numberOf line) (settingsOf line) (blockPart (st .system) (settingsOf line) line) room (hear st line room ∷ hs) st′ room′
+      → Takes st room (own (numberOf line) (settingsOf line) (blockPart (st .system) (settingsOf line) line)) (hear st line room ∷ hs) st′ room′
   accepted-more hs st′ room′ k =
       subst (λ (z : Call). ((i : ℕ) → z .told .state .place ≡ At i → Rest (z .told .state) i line (z .room) hs st′ room′)
-      → Hears st number settings (blockPart (st .system) settings line) room (heardBy z ∷ hs) st′ room′) (sym (accepts st line room fit at ok))
+      → Takes st room (own number settings (blockPart (st .system) settings line)) (heardBy z ∷ hs) st′ room′) (sym (accepts st line room fit at ok))
       (begun-hears st number settings line room hs st′ room′) k
 
 pub hears : (st : Reader) (line room : List ℕ) (hs : List Heard) (st′ : Reader) (room′ : List ℕ) → readFault st (length line) (length room) ≡ 0 → st .place ≡ Shut
     → lineFault (st .system) (st .mode) line ≡ 0 → Lends line st room hs st′ room′
-    → Hears st (numberOf line) (settingsOf line) (blockPart (st .system) (settingsOf line) line) room hs st′ room′
+    → Takes st room (own (numberOf line) (settingsOf line) (blockPart (st .system) (settingsOf line) line)) hs st′ room′
 hears st line room hs st′ room′ fit at ok (last h) = absurd (accepted-last st line room fit at ok h)
 hears st line room hs st′ room′ fit at ok (more {hs = ks} h k) =
     accepted-more st line room fit at ok ks st′ room′ (λ i f. from-place _ line _ ks st′ room′ k i f (fit-next st line room fit))
 
 -- ---- a refused line
 pub refuses-line : (st : Reader) (line room : List ℕ) (hs : List Heard) (st′ : Reader) (room′ : List ℕ) → readFault st (length line) (length room) ≡ 0 → st .place ≡ Shut
-    → (k : ℕ) → lineFault (st .system) (st .mode) line ≡ k → (k ≡ 0 → ⊥) → Lends line st room hs st′ room′ → Refuses st k room hs st′ room′
+    → (k : ℕ) → lineFault (st .system) (st .mode) line ≡ k → (k ≡ 0 → ⊥) → Lends line st room hs st′ room′ → Takes st room (refusal k) hs st′ room′
 refuses-line st line room hs st′ room′ fit at k is bad (last h) =
-    subst (λ (z : Call). Refuses st k room (heardBy z ∷ []) (z .told .state) (z .room)) (sym (refuses st line room fit at k is bad))
+    subst (λ (z : Call). Takes st room (refusal k) (heardBy z ∷ []) (z .told .state) (z .room)) (sym (refuses st line room fit at k is bad))
     (record { heard = refl; state = refl; room-is = refl })
 refuses-line st line room hs st′ room′ fit at k is bad (more h l) =
     absurd (true-false (sym (ap (λ (z : Call). isLast (z .told .event)) (refuses st line room fit at k is bad)) ∙ h))
+
+-- ---- refused with 1 or 2: at once, and everything is left
+faulted : (st : Reader) (line room : List ℕ) (k : ℕ) → readFault st (length line) (length room) ≡ suc k
+    → reading st line room ≡ call (record { event = Refused (suc k) false; state = st }) room
+unfolding reading
+faulted st line room k e =
+    pick-false _ _ (ap (λ (n : ℕ). eqb n 0) e ∙ eqb·suc-zero k) ∙ ap (λ (n : ℕ). call (record { event = Refused n false; state = st }) room) e
+
+pub record Leaves (st : Reader) (room : List ℕ) (k : ℕ) (hs : List Heard) (st′ : Reader) (room′ : List ℕ) : Type 0 where
+  pub heard : hs ≡ is-refused k false ∷ []
+  pub state : st′ ≡ st
+  pub room-is : room′ ≡ room
+
+pub leaves-line : (st : Reader) (line room : List ℕ) (hs : List Heard) (st′ : Reader) (room′ : List ℕ) (k : ℕ) → readFault st (length line) (length room) ≡ suc k
+    → Lends line st room hs st′ room′ → Leaves st room (suc k) hs st′ room′
+leaves-line st line room hs st′ room′ k e (last h) =
+    subst (λ (z : Call). Leaves st room (suc k) (heardBy z ∷ []) (z .told .state) (z .room)) (sym (faulted st line room k e))
+    (record { heard = refl; state = refl; room-is = refl })
+leaves-line st line room hs st′ room′ k e (more h l) = absurd (true-false (sym (ap (λ (z : Call). isLast (z .told .event)) (faulted st line room k e)) ∙ h))
 
 -- ---- what the calls on a line keep
 pub record Keeps (st : Reader) (room : List ℕ) (st′ : Reader) (room′ : List ℕ) : Type 0 where

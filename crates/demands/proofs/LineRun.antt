@@ -1,25 +1,16 @@
--- A line lent until its end is reported: what is heard is what the machine, or the walk over places, says of its area to the end.
+-- A line's area to its end: what the machine, or the walk over places, says of it.
 -- Assumes nothing.
 use Prim.Native.Nat.{ℕ}
-use mathlib.Core.Bool.{_&&_, not}
-use mathlib.Core.List.{List, [], _∷_, _++_}
-use mathlib.Core.Path.{_≡_}
+use mathlib.Core.List.{List}
 use Rattle.lists.specs.Tests.{pick}
 use Rattle.lists.specs.Lists.{part}
 use Rattle.line.specs.declared.settings.Settings.{Settings}
 use Rattle.line.specs.Systems.{systemOf}
 use Rattle.line.specs.Fixed.{isVariable, placesOf, sizeOf}
 use Rattle.line.specs.Layout.{payloadAt}
-use Rattle.course.specs.declared.Last.the-variants.{Unknown, Number}
-use Rattle.course.specs.declared.Place.the-variants.{Shut}
 use Rattle.course.specs.Course.{blocksEnd}
-use Rattle.reader.specs.declared.machine.Phase.the-variants.{Idle}
-use Rattle.reader.specs.declared.state.Reader.{Reader}
-use Rattle.reader.specs.Phases.{isBusy}
 use Rattle.reader.specs.Places.{placesIn}
-use Rattle.reader.specs.Jump.{jumpFrom}
-use Rattle.reader.specs.Reading.{becomes, goesOn}
-use Rattle.demands.specs.Hearing.{Heard, is-refused, is-begun, is-end}
+use Rattle.demands.specs.Hearing.{Heard}
 use Rattle.demands.proofs.Run.{Now, now, runTo, runOut, placesTo, placesOut}
 
 -- the words of a line in which blocks stand
@@ -39,21 +30,3 @@ areaOut payload mode t q ws = leftOut mode (t .block) (placesOf payload (t .bloc
 
 abbrev pub areaTo : ℕ → ℕ → Settings → Now → List ℕ → Now
 areaTo payload mode t q ws = leftTo mode (t .block) (placesOf payload (t .block)) q ws
-
--- the reader as it starts on the area of a line with that number and settings
-abbrev pub startNow : Reader → ℕ → Settings → List ℕ → Now
-startNow st n t room = now (pick (goesOn st n t) (st .phase) Idle) room
-
--- an accepted line
-pub record Hears (st : Reader) (n : ℕ) (t : Settings) (ws room : List ℕ) (hs : List Heard) (st′ : Reader) (room′ : List ℕ) : Type 0 where
-  pub heard : hs
-      ≡ is-begun n (jumpFrom (systemOf (st .system) .lines) (st .last) n) (isBusy (st .phase) && not (goesOn st n t)) t
-      ∷ (areaOut (systemOf (st .system) .payload) (st .mode) t (startNow st n t room) ws ++ (is-end ∷ []))
-  pub state : st′ ≡ becomes st (Number n) t Shut (areaTo (systemOf (st .system) .payload) (st .mode) t (startNow st n t room) ws .phase)
-  pub room-is : room′ ≡ areaTo (systemOf (st .system) .payload) (st .mode) t (startNow st n t room) ws .room
-
--- a refused line
-pub record Refuses (st : Reader) (k : ℕ) (room : List ℕ) (hs : List Heard) (st′ : Reader) (room′ : List ℕ) : Type 0 where
-  pub heard : hs ≡ is-refused k (isBusy (st .phase)) ∷ []
-  pub state : st′ ≡ becomes st Unknown (st .settings) Shut Idle
-  pub room-is : room′ ≡ room

@@ -1,23 +1,21 @@
--- A run of removed lines shorter than one frame is noticed: the line behind it does not have the next number.
+-- A run of removed lines shorter than one frame is noticed: the line behind it does not have the next number, and a line behind a kept one has it.
 -- Assumes nothing.
 use Prim.Native.Nat.{ℕ, zero, suc, _+_, _≤_, _<_}
 use mathlib.Core.Bool.{Bool, true, false}
-use mathlib.Core.List.{List, [], _∷_, _++_, append-assoc}
-use mathlib.Core.Path.{_≡_, refl, sym, ap, _∙_, subst}
+use mathlib.Core.List.{List, [], _∷_}
+use mathlib.Core.Path.{_≡_, refl, sym, ap, _∙_}
 use native.Mathlib.Omega.{arith}
-use lib.Dec.{eqb, ltb}
-use lib.ListN.{replicate}
-use borrow.Author.Tests.{ne-eqb, ltb-true, ltb-false, lt-ltb, le-ltb}
-use Rattle.lists.specs.Tests.{pick}
+use lib.Dec.{ltb}
+use borrow.Author.Tests.{eq-eqb, ne-eqb, ltb-true, ltb-false, lt-ltb, le-ltb}
 use Rattle.lists.proofs.Tests.{true-false, pick-true, pick-false}
 use Rattle.course.specs.declared.Last.{Last}
 use Rattle.course.specs.declared.Last.the-variants.{Unknown, Number}
 use Rattle.course.specs.Course.{nextNumber}
 use Rattle.writer.specs.Opening.{isNext}
 use Rattle.demands.specs.Sending.{Sent}
-use Rattle.demands.specs.Damage.{Fate, kept, removed, replaced, RunsBelow}
+use Rattle.demands.specs.Damage.{Fate, kept, removed, replaced, runFrom, longestRun}
 use Rattle.demands.specs.Demand3.{Follows, Consecutive}
-use Rattle.demands.proofs.Ahead.{Noticed}
+use Rattle.demands.proofs.Ahead.{isKnown, Noticed}
 
 -- ---- numbers: fewer than N steps never lead back
 abbrev steps : ℕ → ℕ → ℕ → ℕ
@@ -73,85 +71,55 @@ steps-move lines j x p l q k e = by (ltb lines (x + j)) refl
     by true t = let u = steps-past lines j x p l (ltb-true lines (x + j) t) k in omega arith
     by false t = let u = steps-up lines j x (ltb-false lines (x + j) t) in omega arith
 
--- ---- runs of removed lines; r lines just before these were removed
-abbrev Short : ℕ → ℕ → List Fate → Type 0
-Short lines r [] = Unit {0}
-Short lines r (kept ∷ fs) = Short lines 0 fs
-Short lines r (removed ∷ fs) = (suc r < lines) × Short lines (suc r) fs
-Short lines r (replaced ws ∷ fs) = Short lines 0 fs
-
--- what no run stands in, none stands in behind a beginning
-behind : (lines : ℕ) (p fs : List Fate) → RunsBelow lines (p ++ fs) → RunsBelow lines fs
-behind lines p fs h a b e = h (p ++ a) b (ap (λ (l : List Fate). p ++ l) e ∙ sym (append-assoc p a (replicate lines removed ++ b)))
-
-one-more : (r : ℕ) (fs : List Fate) → replicate r removed ++ (removed ∷ fs) ≡ removed ∷ (replicate r removed ++ fs)
-one-more zero fs = refl
-one-more (suc r) fs = ap {B = List Fate} (λ l. removed ∷ l) (one-more r fs)
-
-other : (lines r : ℕ) (f : Fate) (fs : List Fate) → RunsBelow lines (replicate r removed ++ (f ∷ fs)) → RunsBelow lines fs
-other lines r f fs h =
-    behind lines (replicate r removed ++ (f ∷ [])) fs (subst (RunsBelow lines) (sym (append-assoc (replicate r removed) (f ∷ []) fs)) h)
-
-short : (lines r : ℕ) → r < lines → (fs : List Fate) → RunsBelow lines (replicate r removed ++ fs) → Short lines r fs
-short lines r k [] h = tt
-short lines r k (kept ∷ fs) h = short lines 0 (omega arith) fs (other lines r kept fs h)
-short lines r k (replaced ws ∷ fs) h = short lines 0 (omega arith) fs (other lines r (replaced ws) fs h)
-short lines r k (removed ∷ fs) h =
-    let less : suc r < lines = by (ltb (suc r) lines) refl in
-    (less, short lines (suc r) less fs (subst (RunsBelow lines) (one-more r fs) h))
-  where
-    by : (b : Bool) → ltb (suc r) lines ≡ b → suc r < lines
-    by true e = ltb-true (suc r) lines e
-    by false e =
-        let l = ltb-false (suc r) lines e in
-        let all : suc r ≡ lines = omega arith in
-        absurd (h [] fs (one-more r fs ∙ ap (λ (n : ℕ). replicate n removed ++ fs) all))
-
 -- ---- the last number that the reader has, and the number of the line before: r steps apart
 abbrev Apart : ℕ → Last → ℕ → ℕ → Type 0
 Apart lines Unknown r x = Unit {0}
 Apart lines (Number y) r x = x ≡ steps lines r y
 
-far : (lines : ℕ) → 0 < lines → (before : Last) (r x n : ℕ) → Apart lines before r x → n ≡ nextNumber lines x → 1 ≤ r → r < lines → isNext lines before n ≡ false
-far lines some Unknown r x n a e least less = refl
-far lines some (Number y) r x n a e least less =
-    let i = next-in lines y some in
+far : (lines : ℕ) (before : Last) (r x n : ℕ) → Apart lines before r x → n ≡ nextNumber lines x → 1 ≤ r → r < lines → isNext lines before n ≡ false
+far lines Unknown r x n a e least less = refl
+far lines (Number y) r x n a e least less =
+    let i = next-in lines y (omega arith) in
     let is : steps lines r (nextNumber lines y) ≡ n = steps-next lines r y ∙ ap (nextNumber lines) (sym a) ∙ sym e in
     ne-eqb n (nextNumber lines y) (λ h. steps-move lines r (nextNumber lines y) (i .0) (i .1) least less (is ∙ h))
 
-noticed-by : (lines : ℕ) → 0 < lines → (fs : List Fate) (ss : List Sent) (before : Last) (gone : Bool) (r x : ℕ) → Follows lines x ss → Short lines r fs → r < lines
-    → (gone ≡ true → 1 ≤ r) → Apart lines before r x → Noticed lines before gone fs ss
-noticed-by lines some [] ss before gone r x follows runs less least apart = tt
-noticed-by lines some (f ∷ fs) [] before gone r x follows runs less least apart = tt
-noticed-by lines some (kept ∷ fs) (s ∷ ss) before gone r x follows runs less least apart = (
-  (λ g. far lines some before r x (s .number) apart (follows .0) (least g) less),
-  noticed-by lines some fs ss (Number (s .number)) false 0 (s .number) (follows .1) runs (omega arith) (λ g. absurd (true-false (sym g))) refl,
+-- none removed: the line has the next number
+near : (lines : ℕ) (before : Last) (r x n : ℕ) → Apart lines before r x → n ≡ nextNumber lines x → r ≡ 0 → isKnown before ≡ true → isNext lines before n ≡ true
+near lines Unknown r x n a e z k = absurd (true-false (sym k))
+near lines (Number y) r x n a e z k = eq-eqb n (nextNumber lines y) (e ∙ ap (nextNumber lines) (a ∙ ap (λ (j : ℕ). steps lines j y) z))
+
+-- the longest run is no shorter than the one before it
+run-least : (r : ℕ) (fs : List Fate) → r ≤ runFrom r fs
+run-least r [] = omega arith
+run-least r (kept ∷ fs) = omega arith
+run-least r (removed ∷ fs) = omega (arith, run-least (suc r) fs)
+run-least r (replaced ws ∷ fs) = omega arith
+
+noticed-by : (lines : ℕ) (told : Bool) (fs : List Fate) (ss : List Sent) (before : Last) (gone : Bool) (r x : ℕ) → Follows lines x ss → runFrom r fs < lines
+    → (gone ≡ true → 1 ≤ r) → (gone ≡ false → r ≡ 0) → Apart lines before r x → Noticed lines told before gone fs ss
+noticed-by lines told [] ss before gone r x follows runs least none apart = tt
+noticed-by lines told (f ∷ fs) [] before gone r x follows runs least none apart = tt
+noticed-by lines told (kept ∷ fs) (s ∷ ss) before gone r x follows runs least none apart = (
+  ((λ g. far lines before r x (s .number) apart (follows .0) (least g) (omega (arith, runs))), λ t g k. near lines before r x (s .number) apart (follows .0) (none g) k),
+  noticed-by lines told fs ss (Number (s .number)) false 0 (s .number) (follows .1) (omega (arith, runs)) (λ g. absurd (true-false (sym g))) (λ g. refl) refl,
 )
-noticed-by lines some (removed ∷ fs) (s ∷ ss) before gone r x follows runs less least apart =
-    noticed-by lines some fs ss before true (suc r) (s .number) (follows .1) (runs .1) (runs .0) (λ g. omega arith) (further before apart)
+noticed-by lines told (removed ∷ fs) (s ∷ ss) before gone r x follows runs least none apart =
+    noticed-by lines told fs ss before true (suc r) (s .number) (follows .1) runs (λ g. omega arith) (λ g. absurd (true-false g)) (further before apart)
   where
     further : (l : Last) → Apart lines l r x → Apart lines l (suc r) (s .number)
     further Unknown a = tt
     further (Number y) a = follows .0 ∙ ap (nextNumber lines) a
-noticed-by lines some (replaced ws ∷ fs) (s ∷ ss) before gone r x follows runs less least apart =
-    noticed-by lines some fs ss Unknown false 0 (s .number) (follows .1) runs (omega arith) (λ g. absurd (true-false (sym g))) tt
+noticed-by lines told (replaced ws ∷ fs) (s ∷ ss) before gone r x follows runs least none apart =
+    noticed-by lines told fs ss Unknown false 0 (s .number) (follows .1) (omega (arith, runs)) (λ g. absurd (true-false (sym g))) (λ g. refl) tt
 
--- a frame has lines: no run is shorter than none
-some-lines : (lines : ℕ) (fs : List Fate) → RunsBelow lines fs → 0 < lines
-some-lines zero fs h = absurd (h [] fs refl)
-some-lines (suc n) fs h = omega arith
-
-first-by : (lines : ℕ) → 0 < lines → (fs : List Fate) (ss : List Sent) → Consecutive lines ss → Short lines 0 fs → Noticed lines Unknown false fs ss
-first-by lines some [] ss numbers runs = tt
-first-by lines some (f ∷ fs) [] numbers runs = tt
-first-by lines some (kept ∷ fs) (s ∷ ss) numbers runs = (
-  (λ g. absurd (true-false (sym g))),
-  noticed-by lines some fs ss (Number (s .number)) false 0 (s .number) numbers runs some (λ g. absurd (true-false (sym g))) refl,
+pub noticed : (lines : ℕ) (told : Bool) (fs : List Fate) (ss : List Sent) → longestRun fs < lines → Consecutive lines ss → Noticed lines told Unknown false fs ss
+noticed lines told [] ss runs numbers = tt
+noticed lines told (f ∷ fs) [] runs numbers = tt
+noticed lines told (kept ∷ fs) (s ∷ ss) runs numbers = (
+  ((λ g. absurd (true-false (sym g))), λ t g k. absurd (true-false (sym k))),
+  noticed-by lines told fs ss (Number (s .number)) false 0 (s .number) numbers (omega (arith, runs)) (λ g. absurd (true-false (sym g))) (λ g. refl) refl,
 )
-first-by lines some (removed ∷ fs) (s ∷ ss) numbers runs =
-    noticed-by lines some fs ss Unknown true 1 (s .number) numbers (runs .1) (runs .0) (λ g. omega arith) tt
-first-by lines some (replaced ws ∷ fs) (s ∷ ss) numbers runs =
-    noticed-by lines some fs ss Unknown false 0 (s .number) numbers runs some (λ g. absurd (true-false (sym g))) tt
-
-pub noticed : (lines : ℕ) (fs : List Fate) (ss : List Sent) → RunsBelow lines fs → Consecutive lines ss → Noticed lines Unknown false fs ss
-noticed lines fs ss runs numbers = let some = some-lines lines fs runs in first-by lines some fs ss numbers (short lines 0 some fs runs)
+noticed lines told (removed ∷ fs) (s ∷ ss) runs numbers =
+    noticed-by lines told fs ss Unknown true 1 (s .number) numbers runs (λ g. omega arith) (λ g. absurd (true-false g)) tt
+noticed lines told (replaced ws ∷ fs) (s ∷ ss) runs numbers =
+    noticed-by lines told fs ss Unknown false 0 (s .number) numbers (omega (arith, runs)) (λ g. absurd (true-false (sym g))) (λ g. refl) tt

@@ -2,7 +2,7 @@
 -- Assumes nothing.
 use Prim.Native.Nat.{ℕ, _+_, _≤_}
 use mathlib.Core.Bool.{Bool, true, false}
-use mathlib.Core.List.{List, []}
+use mathlib.Core.List.{List, [], _∷_, _++_}
 use mathlib.Core.Path.{_≡_}
 use lib.ListN.{length, take, drop}
 use Rattle.line.specs.declared.settings.Settings.{Settings}
@@ -13,14 +13,15 @@ use Rattle.line.specs.Layout.{areaLength, lineWords}
 use Rattle.line.proofs.Lines.{Accepted}
 use Rattle.course.specs.declared.Last.the-variants.{Number}
 use Rattle.course.specs.declared.Place.the-variants.{Shut, At}
+use Rattle.course.specs.Course.{isAt}
 use Rattle.writer.specs.declared.state.Laid.the-variants.{Finished, Unfinished}
 use Rattle.writer.specs.State.{most, isPart, laidOf}
 use Rattle.writer.specs.Opening.{isNext, opening}
 use Rattle.writer.specs.Adding.{valued, adding}
-use Rattle.writer.specs.Block.{blockWords, fixedWords}
+use Rattle.writer.specs.Block.{blockWords, fixedWords, wordsIn}
 use Rattle.writer.specs.Closing.{closing}
 use Rattle.writer.specs.Course.{pieceOf, joined, areaFrom}
-use Rattle.demands.specs.Sending.{Desk, joinedPieces, valuesNow}
+use Rattle.demands.specs.Sending.{Desk, valuesNow, pieceNow, joinedPieces}
 
 -- opened: the state, and that an unfinished block goes on with the next number and the same settings
 pub record Opens (system : ℕ) (d : Desk) (f v : Bool) (n : ℕ) (t : Settings) (lent : List ℕ) : Type 0 where
@@ -35,6 +36,7 @@ pub record Opens (system : ℕ) (d : Desk) (f v : Bool) (n : ℕ) (t : Settings)
 pub record Varies (mode : ℕ) (d : Desk) (kind : ℕ) (vs : List ℕ) : Type 0 where
   pub small : kind ≤ 255
   pub at-most : length (valuesNow d vs) ≤ most
+  pub length-is : length (valuesNow d vs) ≡ length vs
   pub values-fit : valued mode (valuesNow d vs) ≡ true
   pub k : ℕ
   pub some : 1 ≤ k
@@ -53,6 +55,17 @@ pub record Fills (mode : ℕ) (d : Desk) (kind : ℕ) (vs : List ℕ) : Type 0 w
   pub long : length vs + 1 ≡ sizeOf (d .now .settings .block)
   pub none-before : d .pieces ≡ []
   pub piece : pieceOf (d .writer) (d .now .words) kind vs ≡ fixedWords mode kind vs
+
+-- laid: on an open line, by the kind of the line
+pub record Adds (mode : ℕ) (d : Desk) (kind : ℕ) (vs : List ℕ) : Type 0 where
+  pub begun : isAt (d .writer .place) ≡ true
+  pub number : length vs ≤ most
+  pub some : 1 ≤ length (pieceOf (d .writer) (d .now .words) kind vs)
+  pub varies : isVariable (d .now .settings .block) ≡ true → Varies mode d kind vs
+  pub fills : isVariable (d .now .settings .block) ≡ false → Fills mode d kind vs
+  -- finished: the pieces of the block, joined, are its words
+  pub whole : adding (d .writer) (d .now .words) kind vs .answer ≡ Finished
+      → joinedPieces (d .pieces ++ (pieceNow d kind vs ∷ [])) ≡ wordsIn (d .now .settings .block) mode kind (valuesNow d vs)
 
 -- closed: the line of the definition, which the line check accepts
 pub record Closes (system mode : ℕ) (d : Desk) : Type 0 where

@@ -11,7 +11,6 @@ use lib.Seq.{take-all}
 use Rattle.lists.specs.Tests.{pick}
 use Rattle.lists.proofs.Lists.{part-add}
 use Rattle.lists.proofs.Tests.{pick-true, pick-false}
-use Rattle.writer.specs.State.{most}
 use Rattle.writer.specs.Block.{blockWords}
 use Rattle.reader.specs.declared.machine.Phase.{Phase}
 use Rattle.reader.specs.declared.machine.Phase.the-variants.{Idle}
@@ -24,41 +23,31 @@ use Rattle.demands.proofs.Ahead.{blocksHeard, Behind, Matches}
 use Rattle.demands.proofs.RunLaws.{run-to-append, run-out-append, run-room}
 use Rattle.demands.proofs.BlockRun.{Shaped, block-long, whole-out, whole-to, front-out, behind-out, behind-to}
 
-pub all-append : (keeps : ℕ → Bool) (ps qs : List Piece) → allOn keeps (ps ++ qs) ≡ (allOn keeps ps && allOn keeps qs)
-all-append keeps [] qs = refl
-all-append keeps (p ∷ ps) qs = ap (λ (b : Bool). keeps (p .line) && b) (all-append keeps ps qs) ∙ sym (and-assoc (keeps (p .line)) (allOn keeps ps) (allOn keeps qs))
-  where
-    and-assoc : (a b c : Bool) → ((a && b) && c) ≡ (a && (b && c))
-    and-assoc true b c = refl
-    and-assoc false b c = refl
+pub and-none : (a : Bool) → (a && false) ≡ false
+and-none true = refl
+and-none false = refl
 
 -- one more piece on a line that is kept
 pub all-one : (keeps : ℕ → Bool) (ps : List Piece) (p : Piece) → keeps (p .line) ≡ true → allOn keeps (ps ++ (p ∷ [])) ≡ allOn keeps ps
-all-one keeps ps p e = all-append keeps ps (p ∷ []) ∙ ap (λ (b : Bool). allOn keeps ps && (b && true)) e ∙ and-yes (allOn keeps ps)
-  where
-    and-yes : (a : Bool) → (a && true) ≡ a
-    and-yes true = refl
-    and-yes false = refl
+all-one keeps [] p e = ap (λ (b : Bool). b && true) e
+all-one keeps (q ∷ ps) p e = ap (λ (b : Bool). keeps (q .line) && b) (all-one keeps ps p e)
 
 -- and on one that is not
 pub all-lost : (keeps : ℕ → Bool) (ps : List Piece) (p : Piece) → keeps (p .line) ≡ false → allOn keeps (ps ++ (p ∷ [])) ≡ false
-all-lost keeps ps p e = all-append keeps ps (p ∷ []) ∙ ap (λ (b : Bool). allOn keeps ps && (b && true)) e ∙ and-none (allOn keeps ps)
-  where
-    and-none : (a : Bool) → (a && false) ≡ false
-    and-none true = refl
-    and-none false = refl
+all-lost keeps [] p e = ap (λ (b : Bool). b && true) e
+all-lost keeps (q ∷ ps) p e = ap (λ (b : Bool). keeps (q .line) && b) (all-lost keeps ps p e) ∙ and-none (keeps (q .line))
 
-module _ (mode kind : ℕ) (us : List ℕ) (s : Shaped mode kind us) (keeps : ℕ → Bool) (ps : List Piece) (q : Now) (m : Matches mode keeps ps q) (j k : ℕ)
+module _ (mode cap kind : ℕ) (us : List ℕ) (s : Shaped mode kind us) (fit : length us ≤ cap) (keeps : ℕ → Bool) (ps : List Piece) (q : Now) (m : Matches mode cap keeps ps q) (j k : ℕ)
     (before : joinedPieces ps ≡ take j (blockWords mode kind us)) (piece : List ℕ) (is : piece ≡ take k (drop j (blockWords mode kind us)))
     (some : allOn keeps ps ≡ false → 1 ≤ j) where
   abbrev words : List ℕ
   words = blockWords mode kind us
 
-  fits : (b : Behind mode ps q) → length us ≤ length (b .from)
-  fits b = omega (arith, s .at-most, b .from-long)
+  fits : (b : Behind mode cap ps q) → length us ≤ length (b .from)
+  fits b = omega (arith, fit, b .from-long)
 
   -- the machine behind the first j words
-  stands : (b : Behind mode ps q) → q ≡ runTo mode (idle (b .from)) (take j words)
+  stands : (b : Behind mode cap ps q) → q ≡ runTo mode (idle (b .from)) (take j words)
   stands b = b .is ∙ ap (runTo mode (idle (b .from))) before
 
   -- something was lost: idle passes over the piece
@@ -79,7 +68,7 @@ module _ (mode kind : ℕ) (us : List ℕ) (s : Shaped mode kind us) (keeps : �
         let w = block-long mode kind us in
         is ∙ take-all k (drop j words) (omega arith)
 
-    last-out : (b : Behind mode ps q) → runOut mode q piece ≡ is-block (record { kind = kind; values = us }) ∷ []
+    last-out : (b : Behind mode cap ps q) → runOut mode q piece ≡ is-block (record { kind = kind; values = us }) ∷ []
     last-out b =
         ap₂ (λ (x : Now) (l : List ℕ). runOut mode x l) (stands b) rest-is
         ∙ sym (ap (λ (l : List Heard). l ++ runOut mode (runTo mode (idle (b .from)) (take j words)) (drop j words)) (front-out mode kind us s (b .from) (fits b) j (omega arith)))
@@ -87,7 +76,7 @@ module _ (mode kind : ℕ) (us : List ℕ) (s : Shaped mode kind us) (keeps : �
         ∙ ap (runOut mode (idle (b .from))) (take-append-drop j words)
         ∙ whole-out mode kind us s (b .from) (fits b)
 
-    last-to : (b : Behind mode ps q) → runTo mode q piece .phase ≡ Idle
+    last-to : (b : Behind mode cap ps q) → runTo mode q piece .phase ≡ Idle
     last-to b =
         ap (λ (x : Now). x .phase)
         (ap₂ (λ (x : Now) (l : List ℕ). runTo mode x l) (stands b) rest-is
@@ -112,7 +101,7 @@ module _ (mode kind : ℕ) (us : List ℕ) (s : Shaped mode kind us) (keeps : �
 
   -- ---- a piece before the last
   module _ (short : j + k ≤ length us + 6) where
-    more-out : (b : Behind mode ps q) → runOut mode q piece ≡ []
+    more-out : (b : Behind mode cap ps q) → runOut mode q piece ≡ []
     more-out b =
         ap₂ (λ (x : Now) (l : List ℕ). runOut mode x l) (stands b) is
         ∙ sym (ap (λ (l : List Heard). l ++ runOut mode (runTo mode (idle (b .from)) (take j words)) (take k (drop j words))) (front-out mode kind us s (b .from) (fits b) j (omega arith)))
@@ -127,7 +116,7 @@ module _ (mode kind : ℕ) (us : List ℕ) (s : Shaped mode kind us) (keeps : �
         by true e = more-out (m .whole e)
         by false e = lost-out e
 
-    pub matches-on : (p : Piece) → keeps (p .line) ≡ true → p .words ≡ piece → Matches mode keeps (ps ++ (p ∷ [])) (runTo mode q piece)
+    pub matches-on : (p : Piece) → keeps (p .line) ≡ true → p .words ≡ piece → Matches mode cap keeps (ps ++ (p ∷ [])) (runTo mode q piece)
     matches-on p e w = record {
       long = run-room mode q piece ∙ m .long;
       whole = λ h.

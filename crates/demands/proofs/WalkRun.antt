@@ -1,7 +1,7 @@
 -- A walk stops at the first report. Against the run to the words' end: what is heard up to there, and the run over the words that are left.
 -- Assumes nothing.
 use mathlib.Core.Path.{_≡_, refl, sym, ap, ap₂, _∙_, subst}
-use mathlib.Core.Bool.{true}
+use mathlib.Core.Bool.{true, false}
 use mathlib.Core.List.{List, [], _∷_, _++_, map}
 use Prim.Native.Nat.{ℕ, suc, _+_, _*_, _≤_}
 use native.Mathlib.Nat.{zero-mul, one-mul, suc-mul}
@@ -76,6 +76,20 @@ pub record Passes (mode : ℕ) (p : Phase) (xs : List (List ℕ)) (room : List �
   pub to : placesTo mode room xs ≡ placesTo mode (x .room) (drop count xs)
   pub all : isNothing (x .answer .met) ≡ true → count ≡ length xs
 
+-- one place, of which something is reported
+one-passed : (mode : ℕ) (p : Phase) (x : List ℕ) (xs : List (List ℕ)) (room r : List ℕ) (met : Met) → isNothing met ≡ false → placeTo mode x room ≡ r
+    → placeOut mode x room ≡ metHeard met r → Passes mode p (x ∷ xs) room (after p met (length x) r)
+one-passed mode p x xs room r met some e f =
+    record {
+      count = 1;
+      within = omega arith;
+      taken = λ size l. l .0 ∙ sym (one-mul size);
+      phase = refl;
+      out = ap₂ (λ (a : List Heard) (q : List ℕ). a ++ placesOut mode q xs) f e;
+      to = ap (λ (q : List ℕ). placesTo mode q xs) e;
+      all = λ z. absurd (subst T (sym z ∙ some) tt);
+    }
+
 -- after one place that leaves room r, the same room where nothing is met
 place-passes : (mode : ℕ) (p : Phase) (x : List ℕ) (xs : List (List ℕ)) (room r : List ℕ) (met : Met) (on : Walk)
     → placeTo mode x room ≡ r → placeOut mode x room ≡ metHeard met r → (met ≡ Nothing → r ≡ room) → Passes mode p xs room on
@@ -96,26 +110,8 @@ place-passes mode p x xs room r Nothing on e f same h =
       to = ap (λ (q : List ℕ). placesTo mode q xs) to-room ∙ h .to ∙ ap (λ (l : List (List ℕ)). placesTo mode (on .room) l) (sym left);
       all = λ n. omega (arith, h .all n);
     }
-place-passes mode p x xs room r (Whole k n) on e f same h =
-    record {
-      count = 1;
-      within = omega arith;
-      taken = λ size l. l .0 ∙ sym (one-mul size);
-      phase = refl;
-      out = ap₂ (λ (a : List Heard) (q : List ℕ). a ++ placesOut mode q xs) f e;
-      to = ap (λ (q : List ℕ). placesTo mode q xs) e;
-      all = λ z. absurd (subst T (sym z) tt);
-    }
-place-passes mode p x xs room r (Lost n) on e f same h =
-    record {
-      count = 1;
-      within = omega arith;
-      taken = λ size l. l .0 ∙ sym (one-mul size);
-      phase = refl;
-      out = ap₂ (λ (a : List Heard) (q : List ℕ). a ++ placesOut mode q xs) f e;
-      to = ap (λ (q : List ℕ). placesTo mode q xs) e;
-      all = λ z. absurd (subst T (sym z) tt);
-    }
+place-passes mode p x xs room r (Whole k n) on e f same h = one-passed mode p x xs room r (Whole k n) refl e f
+place-passes mode p x xs room r (Lost n) on e f same h = one-passed mode p x xs room r (Lost n) refl e f
 
 pub places-pass : (mode : ℕ) (p : Phase) (xs : List (List ℕ)) (room : List ℕ) → Passes mode p xs room (walkPlaces mode p xs room)
 unfolding walkPlaces placeTo placeOut

@@ -1,10 +1,10 @@
 -- What becomes of lines on their way, and which blocks survive it.
 -- Assumes nothing.
-use Prim.Native.Nat.{ℕ, zero, suc}
+use Prim.Native.Nat.{ℕ, zero, suc, max}
 use mathlib.Core.Bool.{Bool, true, false, _&&_}
-use mathlib.Core.List.{List, [], _∷_, _++_}
+use mathlib.Core.List.{List, [], _∷_}
 use mathlib.Core.Path.{_≡_}
-use lib.ListN.{length, replicate}
+use lib.ListN.{length}
 use Rattle.lists.specs.Tests.{pick}
 use Rattle.line.specs.Systems.{systemOf}
 use Rattle.line.specs.Check.{lineFault}
@@ -29,16 +29,21 @@ remain (kept ∷ fs) (s ∷ ss) = s .words ∷ remain fs ss
 remain (removed ∷ fs) (s ∷ ss) = remain fs ss
 remain (replaced ws ∷ fs) (s ∷ ss) = ws ∷ remain fs ss
 
--- replaced by words of the same length that the line check of that system and mode refuses
-abbrev pub Refusing : ℕ → ℕ → List Fate → Type 0
-Refusing system mode [] = Unit {0}
-Refusing system mode (kept ∷ fs) = Refusing system mode fs
-Refusing system mode (removed ∷ fs) = Refusing system mode fs
-Refusing system mode (replaced ws ∷ fs) = (length ws ≡ systemOf system .length) × ((lineFault system mode ws ≡ 0 → ⊥) × Refusing system mode fs)
+-- a line that is replaced: by words of the same length that the line check of that system and mode refuses
+abbrev pub RefusedIfReplaced : ℕ → ℕ → Fate → Type 0
+RefusedIfReplaced system mode kept = Unit {0}
+RefusedIfReplaced system mode removed = Unit {0}
+RefusedIfReplaced system mode (replaced ws) = (length ws ≡ systemOf system .length) × (lineFault system mode ws ≡ 0 → ⊥)
 
--- no n lines one after another are removed: each run of removed lines is shorter than n
-abbrev pub RunsBelow : ℕ → List Fate → Type 0
-RunsBelow n fs = (before behind : List Fate) → fs ≡ before ++ (replicate n removed ++ behind) → ⊥
+-- how many lines the longest run of removed lines has; r lines just before these were removed
+abbrev pub runFrom : ℕ → List Fate → ℕ
+runFrom r [] = r
+runFrom r (kept ∷ fs) = max r (runFrom 0 fs)
+runFrom r (removed ∷ fs) = runFrom (suc r) fs
+runFrom r (replaced ws ∷ fs) = max r (runFrom 0 fs)
+
+abbrev pub longestRun : List Fate → ℕ
+longestRun fs = runFrom 0 fs
 
 -- line i is kept
 abbrev pub keptAt : List Fate → ℕ → Bool

@@ -26,6 +26,7 @@ use Rattle.reader.specs.State.{capacity, fresh}
 use Rattle.reader.specs.Jump.{jumpFrom}
 use Rattle.reader.specs.Reading.{readFault, reading}
 use Rattle.reader.specs.Lending.{isBegun}
+use Rattle.demands.specs.All.{All}
 use Rattle.demands.specs.Sending.{Call, Piece, Complete, Sent, sentFresh, joinedPieces}
 use Rattle.demands.specs.Hearing.{Heard, is-begun, is-block, is-end, Reads, Readable}
 
@@ -34,25 +35,17 @@ abbrev pub IsLine : ℕ → Sent → Type 0
 IsLine system s =
     s .words ≡ lineWords (systemOf system) (s .f) (s .v) (s .number) (s .settings) (areaFrom (systemOf system .payload) (s .settings .flag) (s .pieces))
 
-abbrev pub AreLines : ℕ → List Sent → Type 0
-AreLines system [] = Unit {0}
-AreLines system (s ∷ ss) = IsLine system s × AreLines system ss
+-- a piece has one word or more
+abbrev pub HasWord : Piece → Type 0
+HasWord p = 1 ≤ length (p .words)
 
--- The pieces in which a block was laid have one word or more each, and joined they are the block's words, by the block type of the line on which it was finished.
-abbrev pub NoneEmpty : List Piece → Type 0
-NoneEmpty [] = Unit {0}
-NoneEmpty (p ∷ ps) = (1 ≤ length (p .words)) × NoneEmpty ps
-
+-- The pieces in which a block was laid, joined, are its words, by the block type of the line on which it was finished; and none of them is empty.
 abbrev pub IsBlock : ℕ → ℕ → Complete → Type 0
-IsBlock block mode b = (joinedPieces (b .pieces) ≡ wordsIn block mode (b .block .kind) (b .block .values)) × NoneEmpty (b .pieces)
+IsBlock block mode b = (joinedPieces (b .pieces) ≡ wordsIn block mode (b .block .kind) (b .block .values)) × All HasWord (b .pieces)
 
-abbrev pub AreBlocks : ℕ → ℕ → List Complete → Type 0
-AreBlocks block mode [] = Unit {0}
-AreBlocks block mode (b ∷ bs) = IsBlock block mode b × AreBlocks block mode bs
-
-abbrev pub HaveBlocks : ℕ → List Sent → Type 0
-HaveBlocks mode [] = Unit {0}
-HaveBlocks mode (s ∷ ss) = AreBlocks (s .settings .block) mode (s .blocks) × HaveBlocks mode ss
+-- each block finished on a line
+abbrev pub HasBlocks : ℕ → Sent → Type 0
+HasBlocks mode s = All (IsBlock (s .settings .block) mode) (s .blocks)
 
 -- What is heard of lines in order: each is begun with its number, the jump from the number before it, nothing dropped, and its settings;
 -- then the blocks finished on it; then its end. No drop and no refusal.
@@ -63,11 +56,11 @@ givenBack lines before (s ∷ ss) =
     ∷ (map (λ (b : Complete). is-block (b .block)) (s .blocks) ++ (is-end ∷ givenBack lines (Number (s .number)) ss))
 
 pub record Demand2 : Type 0 where
-  pub lines : (system mode : ℕ) (cs : List Call) → AreLines system (sentFresh system mode cs)
+  pub lines : (system mode : ℕ) (cs : List Call) → All (IsLine system) (sentFresh system mode cs)
   -- and the same of a writer in any state, fresh or not: a line opened, filled by any calls and closed
   pub any-line : (w : Writer) (f v : Bool) (n : ℕ) (t : Settings) (lent : List ℕ) (w′ : Writer) (line : List ℕ) (ps : List (List ℕ)) → Held t
       → Written w f v n t lent w′ line ps → line ≡ lineWords (systemOf (w .system)) f v n t (areaFrom (systemOf (w .system) .payload) (t .flag) ps)
-  pub blocks : (system mode : ℕ) (cs : List Call) → HaveBlocks mode (sentFresh system mode cs)
+  pub blocks : (system mode : ℕ) (cs : List Call) → All (HasBlocks mode) (sentFresh system mode cs)
   -- with no line begun, and neither 1 nor 2: begun exactly if none of the conditions 3 to 16 holds
   pub accepted : (st : Reader) (line room : List ℕ) → readFault st (length line) (length room) ≡ 0 → st .place ≡ Shut
       → isBegun (reading st line room .told .event) ≡ eqb (lineFault (st .system) (st .mode) line) 0

@@ -3,7 +3,7 @@
 -- that the line check refuses: a fresh reader of that system and mode, lent the rest once each and in order, hands out exactly the blocks none of
 -- whose words lay on a removed or replaced line, in order, with types and values as written.
 -- Assumes nothing.
-use Prim.Native.Nat.{ℕ, _+_, _≤_}
+use Prim.Native.Nat.{ℕ, _+_, _≤_, _<_}
 use mathlib.Core.Logic.{_⊎_}
 use mathlib.Core.List.{List, [], _∷_}
 use mathlib.Core.Path.{_≡_}
@@ -16,9 +16,10 @@ use Rattle.course.specs.Course.{nextNumber}
 use Rattle.writer.specs.declared.state.Rest.the-variants.{Whole}
 use Rattle.reader.specs.declared.state.Reader.{Reader}
 use Rattle.reader.specs.State.{capacity, fresh}
+use Rattle.demands.specs.All.{All}
 use Rattle.demands.specs.Sending.{Call, Sent, Desk, valuesNow, sentFresh, blocksOf}
 use Rattle.demands.specs.Hearing.{Heard, is-refused, is-begun, is-block, is-drop, is-end, Lends, Reads, Readable, handedOut}
-use Rattle.demands.specs.Damage.{Fate, remain, Refusing, RunsBelow, keptAt, survivors}
+use Rattle.demands.specs.Damage.{Fate, remain, RefusedIfReplaced, longestRun, keptAt, survivors}
 
 -- each number comes after the number before it; the number after N is 1
 abbrev pub Follows : ℕ → ℕ → List Sent → Type 0
@@ -35,17 +36,16 @@ Consecutive lines (s ∷ ss) = Follows lines (s .number) ss
 pub record Transmission (system mode bound : ℕ) (cs : List Call) (fs : List Fate) : Type 0 where
   pub numbers : Consecutive (systemOf system .lines) (sentFresh system mode cs)
   pub each-line : length fs ≡ length (sentFresh system mode cs)
-  pub runs : RunsBelow bound fs
-  pub refusing : Refusing system mode fs
+  pub runs : longestRun fs < bound
+  pub refusing : All (RefusedIfReplaced system mode) fs
 
--- answers 1 and 2 are not among these
-abbrev pub From3 : List Heard → Type 0
-From3 [] = Unit {0}
-From3 (is-refused n dropped ∷ hs) = (3 ≤ n) × From3 hs
-From3 (is-begun n jump dropped t ∷ hs) = From3 hs
-From3 (is-block b ∷ hs) = From3 hs
-From3 (is-drop n ∷ hs) = From3 hs
-From3 (is-end ∷ hs) = From3 hs
+-- a refusal has none of the answers 1 and 2
+abbrev pub IsFrom3 : Heard → Type 0
+IsFrom3 (is-refused n dropped) = 3 ≤ n
+IsFrom3 (is-begun n jump dropped t) = Unit {0}
+IsFrom3 (is-block b) = Unit {0}
+IsFrom3 (is-drop n) = Unit {0}
+IsFrom3 is-end = Unit {0}
 
 -- Every fresh reader of that system and mode, lent what remains once each and in order, hands out exactly the surviving blocks.
 abbrev pub HandsOut : ℕ → ℕ → ℕ → Type 0
@@ -65,4 +65,4 @@ pub record Demand3 : Type 0 where
   pub ends : (st : Reader) (line room : List ℕ) → st .place ≡ Shut → (hs : List Heard) (st′ : Reader) (room′ : List ℕ) → Lends line st room hs st′ room′
       → length hs ≤ areaLength (systemOf (st .system) .payload) (settingsOf line .flag) + 2
   pub served : (system mode : ℕ) (cs : List Call) (fs : List Fate) → Transmission system mode (systemOf system .lines) cs fs
-      → (room : List ℕ) → length room ≡ capacity → (hs : List Heard) → Reads (fresh system mode) room (remain fs (sentFresh system mode cs)) hs → From3 hs
+      → (room : List ℕ) → length room ≡ capacity → (hs : List Heard) → Reads (fresh system mode) room (remain fs (sentFresh system mode cs)) hs → All IsFrom3 hs

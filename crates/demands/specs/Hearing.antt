@@ -40,11 +40,17 @@ pub data Lends (line : List ℕ) : Reader → List ℕ → List Heard → Reader
       → Lends line (reading st line room .told .state) (reading st line room .room) hs st′ room′
       → Lends line st room (hear st line room ∷ hs) st′ room′
 
--- Lines lent once each and in order; the state and the room are touched by nobody else.
-pub data Reads : Reader → List ℕ → List (List ℕ) → List Heard → Type 0 where
-  done : {st : Reader} {room : List ℕ} → Reads st room [] []
-  next : {st st′ : Reader} {room room′ : List ℕ} {line : List ℕ} {lines : List (List ℕ)} {hs ks : List Heard}
-      → Lends line st room hs st′ room′ → Reads st′ room′ lines ks → Reads st room (line ∷ lines) (hs ++ ks)
+-- Lines lent once each and in order, from a state and a room to a state and a room, which are touched by nobody else.
+pub data ReadsTo : Reader → List ℕ → List (List ℕ) → List Heard → Reader → List ℕ → Type 0 where
+  done : {st : Reader} {room : List ℕ} → ReadsTo st room [] [] st room
+  next : {st st′ st″ : Reader} {room room′ room″ : List ℕ} {line : List ℕ} {lines : List (List ℕ)} {hs ks : List Heard}
+      → Lends line st room hs st′ room′ → ReadsTo st′ room′ lines ks st″ room″ → ReadsTo st room (line ∷ lines) (hs ++ ks) st″ room″
+
+-- and whatever state and room are behind the last line
+pub record Reads (st : Reader) (room : List ℕ) (lines : List (List ℕ)) (hs : List Heard) : Type 0 where
+  pub st′ : Reader
+  pub room′ : List ℕ
+  pub reads-to : ReadsTo st room lines hs st′ room′
 
 -- such a course of calls exists
 pub record Readable (st : Reader) (room : List ℕ) (lines : List (List ℕ)) : Type 0 where

@@ -1,3 +1,4 @@
+pub mod All
 pub mod Sending
 pub mod Hearing
 pub mod Damage

@@ -1,46 +1,39 @@
--- The pieces of a block, joined, are its words: laid by one call or by several, on whatever lines, each call with values of its own.
+-- One accepted addition: the piece that it lays of a block, and what is left of the block; and the words of a block whose values come from two calls.
+-- What the pieces of a course of calls are together is demand 2 (demands/specs/Demand2.antt: `blocks`).
 -- Assumes nothing.
-use mathlib.Core.Path.{_≡_, refl, sym, ap, ap₂, _∙_, subst}
-use mathlib.Core.Bool.{Bool, true, false, _&&_, _||_, not}
-use mathlib.Core.List.{List, [], _∷_, _++_, map, map-append, append-assoc, append-nil}
+use mathlib.Core.Path.{_≡_, refl, sym, ap, ap₂, _∙_}
+use mathlib.Core.Bool.{Bool, true, false}
+use mathlib.Core.List.{List, [], _∷_, _++_, map, map-append, append-assoc}
 use mathlib.Core.Logic.{⊎-elim}
 use Prim.Native.Nat.{ℕ, _+_, _-_, _≤_}
 use native.Mathlib.Omega.{arith}
-use lib.Dec.{T, eqb}
+use lib.Dec.{eqb}
 use lib.ListN.{length, take, drop, length-append, length-take, length-drop, length-map, take-append-drop}
-use lib.Seq.{take-all, drop-drop, take-append-le, drop-at}
+use lib.Seq.{take-all, take-append-le, drop-at}
 use borrow.Author.Tests.{eq-eqb, eqb-true, eqb-false}
 use Rattle.lists.specs.Tests.{pick}
 use Rattle.lists.proofs.Tests.{pick-true, pick-false, lt-or-le}
-use Rattle.lists.proofs.Lists.{inside}
 use Rattle.words.specs.Forms.{byteWord}
 use Rattle.words.specs.Modes.{wordOf}
 use Rattle.words.specs.Class.{separator, endCode}
-use Rattle.line.specs.declared.settings.Settings.{Settings}
-use Rattle.course.specs.declared.Place.the-variants.{Shut}
 use Rattle.line.specs.Systems.{systemOf}
 use Rattle.line.specs.Fixed.{isVariable}
-use Rattle.line.specs.Settings.{sameSettings}
 use Rattle.line.specs.Layout.{payloadAt}
-use Rattle.course.specs.Course.{isAt, placeOf}
+use Rattle.course.specs.Course.{placeOf}
 use Rattle.writer.specs.declared.state.Rest.{Rest}
-use Rattle.writer.specs.declared.state.Rest.the-variants.{Whole, Part}
+use Rattle.writer.specs.declared.state.Rest.the-variants.{Part}
 use Rattle.writer.specs.declared.state.Writer.{Writer}
 use Rattle.writer.specs.declared.state.Laid.{Laid}
 use Rattle.writer.specs.declared.state.Laid.the-variants.{Finished, Unfinished}
-use Rattle.writer.specs.declared.state.Answer.the-variants.{Refused, Done}
-use Rattle.writer.specs.State.{isPart, laidOf, moved}
-use Rattle.writer.specs.Block.{countWords, blockWords, fixedWords, wordsIn}
-use Rattle.writer.specs.Answers.{laidNumbers, left, Added}
+use Rattle.writer.specs.State.{laidOf}
+use Rattle.writer.specs.Block.{countWords, blockWords, fixedWords}
+use Rattle.writer.specs.Answers.{laidNumbers, Added}
 use Rattle.writer.specs.Adding.{addFault, todo, room, adding}
-use Rattle.writer.specs.Opening.{isNext, openBlocked, openFault, openState, opening}
-use Rattle.writer.specs.Closing.{closeFault, closing}
-use Rattle.writer.specs.Course.{pieceOf, joined, Goes, Laying, ends, goes, asLaid, Lending, lends-last, lends}
+use Rattle.writer.specs.Course.{pieceOf, asLaid}
 use Rattle.writer.proofs.Keeps.{add-leaves, add-stays}
-use Rattle.writer.proofs.Refusals.{can-open, can-add}
+use Rattle.writer.proofs.Refusals.{can-add}
 use Rattle.writer.proofs.Writing.{either, piece-law}
-use Rattle.line.proofs.SettingsLaws.{same-block}
-use Rattle.writer.proofs.Stays.{free, part-laid, fixed-whole, fixed-fits, words-variable, words-fixed}
+use Rattle.writer.proofs.Stays.{fixed-whole, fixed-fits, words-fixed}
 
 -- ---- one addition
 done-or : (b : Bool) → pick b Finished Unfinished ≡ Finished → b ≡ true
@@ -61,10 +54,16 @@ module _ (w : Writer) (line : List ℕ) (kind : ℕ) (vs : List ℕ) where
   k = room w (todo w kind vs)
 
   -- an answer of two numbers is not a refusal
-  pub laid-ok : length (laidNumbers (adding w line kind vs .answer)) ≡ 2 → addFault w (length line) kind vs ≡ 0
+  laid-ok : length (laidNumbers (adding w line kind vs .answer)) ≡ 2 → addFault w (length line) kind vs ≡ 0
   laid-ok e =
       ⊎-elim (λ z. z) (λ h. absurd (let a = ap (λ (x : Added). length (laidNumbers (x .answer))) (add-stays w line kind vs h) in let f : ⊥ = omega arith in f))
       (either (addFault w (length line) kind vs))
+
+  pub finished-clear : adding w line kind vs .answer ≡ Finished → addFault w (length line) kind vs ≡ 0
+  finished-clear e = laid-ok (ap (λ (a : Laid). length (laidNumbers a)) e)
+
+  pub unfinished-clear : adding w line kind vs .answer ≡ Unfinished → addFault w (length line) kind vs ≡ 0
+  unfinished-clear e = laid-ok (ap (λ (a : Laid). length (laidNumbers a)) e)
 
   module _ (ok : addFault w (length line) kind vs ≡ 0) where
     within : payloadAt (systemOf (w .system)) + placeOf (w .place) ≤ length line
@@ -167,110 +166,3 @@ module _ (mode kind j n : ℕ) (vs us : List ℕ) (short : j ≤ n + 6) (ev : le
       ∙ sym (drop-at (first us) _ j (first-long us eu ∙ is))
       ∙ ap (drop j) (sym (whole-split us eu)))
       (lt-or-le j 6)
-
--- the pieces joined are what was still to lay of the block of these values
-pub record Joins (kind n : ℕ) (w : Writer) (us : List ℕ) (ps : List (List ℕ)) : Type 0 where
-  pub long : length us ≡ n
-  pub is : joined ps ≡ todo w kind us
-
-joins-on : (kind : ℕ) (w next : Writer) (line vs us : List ℕ) (ps : List (List ℕ)) → adding w line kind vs .answer ≡ Unfinished
-    → Goes (adding w line kind vs .state) next → Joins kind (length vs) next us ps
-    → Joins kind (length vs) w (asLaid (laidOf (adding w line kind vs .state .rest)) vs us) (pieceOf w line kind vs ∷ ps)
-joins-on kind w next line vs us ps e g more =
-    let ok = laid-ok w line kind vs (ap (λ (a : Laid). length (laidNumbers a)) e) in
-    let block = w .settings .block in
-    let mode = w .mode in
-    let j = laidOf (w .rest) in
-    let k = room w (todo w kind vs) in
-    let v = varies w line kind vs ok e in
-    let x = add-leaves w line kind vs ok in
-    let rest = rest-left w line kind vs ok e in
-    let short = part-laid w line kind vs ok v (eqb-false _ _ (some-left w line kind vs ok e)) .1 in
-    let is-var : (l : List ℕ) → wordsIn block mode kind l ≡ blockWords mode kind l = λ l. words-variable block mode kind l v in
-    -- what the next call finds to lay
-    let after : todo next kind us ≡ drop (j + k) (blockWords mode kind us) =
-    ap₂ (λ (r : Rest) (l : List ℕ). drop (laidOf r) l) (g .rest ∙ rest)
-    (ap₂ (λ (b m : ℕ). wordsIn b m kind us) (g .block ∙ ap (λ (x : Added). x .state .settings .block) x) (g .mode ∙ ap (λ (x : Added). x .state .mode) x) ∙ is-var us) in
-    let piece : pieceOf w line kind vs ≡ take k (drop j (blockWords mode kind vs)) =
-    piece-laid w line kind vs ok ∙ ap (λ (l : List ℕ). take k (drop j l)) (is-var vs) in
-    let mix = asLaid (j + k) vs us in
-    let at : laidOf (adding w line kind vs .state .rest) ≡ j + k = ap laidOf rest in
-    let words = blockWords mode kind mix in
-    let before : take k (drop j words) ≡ take k (drop j (blockWords mode kind vs)) =
-    sym (inside j k (j + k) words (omega arith)) ∙ ap (λ (l : List ℕ). take k (drop j l)) (as-before mode kind (j + k) (length vs) vs us short refl (more .long))
-    ∙ inside j k (j + k) (blockWords mode kind vs) (omega arith) in
-    let behind : drop k (drop j words) ≡ drop (j + k) (blockWords mode kind us) =
-    drop-drop k j words ∙ as-behind mode kind (j + k) (length vs) vs us short refl (more .long) in
-    subst (λ (i : ℕ). Joins kind (length vs) w (asLaid i vs us) (pieceOf w line kind vs ∷ ps)) (sym at)
-    (record {
-      long = as-long mode kind (j + k) (length vs) vs us short refl (more .long);
-      is = ap₂ _++_ (piece ∙ sym before) (more .is ∙ after ∙ sym behind) ∙ take-append-drop k (drop j words) ∙ ap (drop j) (sym (is-var mix));
-    })
-
-pub lent-joined : (kind n : ℕ) (w : Writer) (us : List ℕ) (ps : List (List ℕ)) → Lending kind n w us ps → Joins kind n w us ps
-lent-joined kind n w _ _ (lends-last line vs len e) =
-    let ok = laid-ok w line kind vs (ap (λ (a : Laid). length (laidNumbers a)) e) in
-    record { long = len; is = append-nil (pieceOf w line kind vs) ∙ all-laid w line kind vs ok e }
-lent-joined kind n w _ _ (lends {next = next} {us = us} {ps = ps} line vs len e g more) =
-    subst (λ (m : ℕ). Joins kind m w (asLaid (laidOf (adding w line kind vs .state .rest)) vs us) (pieceOf w line kind vs ∷ ps)) len
-    (joins-on kind w next line vs us ps e g (subst (λ (m : ℕ). Joins kind m next us ps) (sym len) (lent-joined kind n next us ps more)))
-
--- ---- the same values in each call
-pub lays-same : (kind : ℕ) (vs : List ℕ) (w : Writer) (ps : List (List ℕ)) → Laying kind vs w ps → Lending kind (length vs) w vs ps
-lays-same kind vs w _ (ends line e) = lends-last line vs refl e
-lays-same kind vs w _ (goes {next = next} {ps = ps} line e g more) =
-    subst (λ (l : List ℕ). Lending kind (length vs) w l (pieceOf w line kind vs ∷ ps)) (take-append-drop (laidOf (adding w line kind vs .state .rest) - 6) vs)
-    (lends line vs refl e g (lays-same kind vs next ps more))
-
-pub pieces-joined : (kind : ℕ) (vs : List ℕ) (w : Writer) (ps : List (List ℕ)) → Laying kind vs w ps → joined ps ≡ todo w kind vs
-pieces-joined kind vs w ps l = lent-joined kind (length vs) w vs ps (lays-same kind vs w ps l) .is
-
--- ---- a new block: all its words
-new-words : (w : Writer) (kind : ℕ) (vs : List ℕ) → w .rest ≡ Whole → todo w kind vs ≡ wordsIn (w .settings .block) (w .mode) kind vs
-new-words w kind vs r = ap (λ (x : Rest). drop (laidOf x) (wordsIn (w .settings .block) (w .mode) kind vs)) r
-
--- a variable one, the values as they were laid
-pub block-lent : (kind n : ℕ) (w : Writer) (us : List ℕ) (ps : List (List ℕ)) → isVariable (w .settings .block) ≡ true → w .rest ≡ Whole
-    → Lending kind n w us ps → joined ps ≡ blockWords (w .mode) kind us
-block-lent kind n w us ps v r l = lent-joined kind n w us ps l .is ∙ new-words w kind us r ∙ words-variable (w .settings .block) (w .mode) kind us v
-
-pub block-laid : (kind : ℕ) (vs : List ℕ) (w : Writer) (ps : List (List ℕ)) → isVariable (w .settings .block) ≡ true → w .rest ≡ Whole
-    → Laying kind vs w ps → joined ps ≡ blockWords (w .mode) kind vs
-block-laid kind vs w ps v r l = block-lent kind (length vs) w vs ps v r (lays-same kind vs w ps l)
-
--- a place of a fixed line: one call, one piece
-pub fixed-laid : (kind : ℕ) (vs : List ℕ) (w : Writer) (ps : List (List ℕ)) → isVariable (w .settings .block) ≡ false → Laying kind vs w ps
-    → ps ≡ fixedWords (w .mode) kind vs ∷ []
-fixed-laid kind vs w _ v (ends line e) =
-    let ok = laid-ok w line kind vs (ap (λ (a : Laid). length (laidNumbers a)) e) in
-    ap (λ (p : List ℕ). p ∷ []) (fixed-once w line kind vs ok v .1)
-fixed-laid kind vs w _ v (goes line e g more) =
-    let ok = laid-ok w line kind vs (ap (λ (a : Laid). length (laidNumbers a)) e) in
-    absurd (subst T (sym (varies w line kind vs ok e) ∙ v) tt)
-
--- ---- between two additions of a block: whatever is opened or closed, done or refused, the block goes on
-goes-by : (w s : Writer) (b : Bool) (n : ℕ) (l line : List ℕ) → (b ≡ true → Goes w s) → Goes w (pick b (left Done s l) (left (Refused n) w line) .state)
-unfolding pick
-goes-by w s true n l line h = h refl
-goes-by w s false n l line h = record { mode = refl; block = refl; rest = refl }
-
-pub close-goes : (w : Writer) (line : List ℕ) → Goes w (closing w line .state)
-unfolding closing
-close-goes w line = goes-by w (moved w Shut (w .rest)) (eqb (closeFault w (length line)) 0) _ _ line (λ h. record { mode = refl; block = refl; rest = refl })
-
-blocked-by : (a c d : Bool) → (a || (true && (not c || d))) ≡ false → c ≡ true
-blocked-by true c d e = absurd (subst T e tt)
-blocked-by false true d e = refl
-blocked-by false false d e = absurd (subst T e tt)
-
-pub open-goes : (w : Writer) (f v : Bool) (n : ℕ) (t : Settings) (line : List ℕ) → isPart (w .rest) ≡ true → Goes w (opening w f v n t line .state)
-unfolding opening openBlocked
-open-goes w f v n t line part =
-    goes-by w (openState w n t) (eqb (openFault w n t (length line)) 0) _ _ line
-    (λ h.
-    let o = can-open w n t (length line) (eqb-true _ _ h) in
-    let same = sameSettings t (w .settings) in
-    let next = isNext (systemOf (w .system) .lines) (w .last) n in
-    let free : (isAt (w .place) || (true && (not same || not next))) ≡ false =
-    ap (λ (b : Bool). isAt (w .place) || (b && (not same || not next))) (sym part) ∙ o .free in
-    record { mode = refl; block = same-block t (w .settings) (blocked-by (isAt (w .place)) same (not next) free); rest = refl })

@@ -1,4 +1,4 @@
--- Courses of calls: a line opened, filled and closed; and a block laid by one or several calls.
+-- What an addition lays, and a line opened, filled and closed.
 -- Assumes nothing.
 use mathlib.Core.Path.{_≡_}
 use Prim.Native.Nat.{ℕ, _+_, _-_}
@@ -11,8 +11,6 @@ use Rattle.line.specs.Layout.{payloadAt, areaLength}
 use Rattle.course.specs.Course.{placeOf}
 use Rattle.writer.specs.declared.state.Writer.{Writer}
 use Rattle.writer.specs.declared.state.Answer.the-variants.{Refused, Done}
-use Rattle.writer.specs.declared.state.Laid.the-variants.{Finished, Unfinished}
-use Rattle.writer.specs.State.{laidOf}
 use Rattle.writer.specs.Opening.{opening}
 use Rattle.writer.specs.Adding.{adding}
 use Rattle.writer.specs.Closing.{closing}
@@ -54,26 +52,6 @@ pub record Written (w : Writer) (f v : Bool) (n : ℕ) (t : Settings) (lent : Li
 unfoldable pub areaFrom : ℕ → ℕ → List (List ℕ) → List ℕ
 areaFrom p flag ps = joined ps ++ replicate (areaLength p flag - length (joined ps)) 0x200
 
--- between two additions of a block: mode, kind of line and the unfinished block stay
-pub record Goes (x y : Writer) : Type 0 where
-  pub mode : y .mode ≡ x .mode
-  pub block : y .settings .block ≡ x .settings .block
-  pub rest : y .rest ≡ x .rest
-
--- additions of one block, lent unchanged, on whatever lines, until it is finished; the pieces laid
-pub data Laying (kind : ℕ) (vs : List ℕ) : Writer → List (List ℕ) → Type 0 where
-  ends : {w : Writer} (line : List ℕ) → adding w line kind vs .answer ≡ Finished → Laying kind vs w (pieceOf w line kind vs ∷ [])
-  goes : {w next : Writer} {ps : List (List ℕ)} (line : List ℕ) → adding w line kind vs .answer ≡ Unfinished
-      → Goes (adding w line kind vs .state) next → Laying kind vs next ps → Laying kind vs w (pieceOf w line kind vs ∷ ps)
-
 -- j words laid of a block of the values vs, the others of the values us: word 6 + i is that of value i
 abbrev pub asLaid : ℕ → List ℕ → List ℕ → List ℕ
 asLaid j vs us = take (j - 6) vs ++ drop (j - 6) us
-
--- the same where each call may lend other values, n of them: the values as they were laid, and the pieces
-pub data Lending (kind n : ℕ) : Writer → List ℕ → List (List ℕ) → Type 0 where
-  lends-last : {w : Writer} (line vs : List ℕ) → length vs ≡ n → adding w line kind vs .answer ≡ Finished
-      → Lending kind n w vs (pieceOf w line kind vs ∷ [])
-  lends : {w next : Writer} {us : List ℕ} {ps : List (List ℕ)} (line vs : List ℕ) → length vs ≡ n → adding w line kind vs .answer ≡ Unfinished
-      → Goes (adding w line kind vs .state) next → Lending kind n next us ps
-      → Lending kind n w (asLaid (laidOf (adding w line kind vs .state .rest)) vs us) (pieceOf w line kind vs ∷ ps)
