@@ -15,9 +15,9 @@ use Rattle.course.specs.Course.{isAt}
 use Rattle.writer.specs.State.{isPart}
 use Rattle.writer.specs.Opening.{isNext}
 use Rattle.writer.specs.Course.{joined}
-use Rattle.reader.specs.declared.machine.Phase.the-variants.{Idle}
+use Rattle.machine.specs.declared.phase.Phase.the-variants.{Idle}
 use Rattle.reader.specs.declared.state.Reader.{Reader}
-use Rattle.reader.specs.Phases.{isBusy}
+use Rattle.machine.specs.Phases.{isBusy}
 use Rattle.reader.specs.Jump.{jumpFrom}
 use Rattle.reader.specs.State.{capacity, impossible}
 use Rattle.reader.specs.Reading.{goesOn}

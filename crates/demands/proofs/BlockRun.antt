@@ -22,13 +22,13 @@ use Rattle.words.specs.declared.class.Class.{Class}
 use Rattle.words.specs.declared.class.Class.the-variants.{Byte, Other, Separator, Ending, Illegal}
 use Rattle.words.proofs.FormLaws.{byte-low, byte-in, data-in, byte-data, byte-of-low, value-back}
 use Rattle.words.proofs.ClassLaws.{class-byte, code-not-data, code-class}
-use Rattle.reader.specs.declared.machine.Phase.{Phase}
-use Rattle.reader.specs.declared.machine.Phase.the-variants.{Idle, Kind, First, Second, Third, Fourth, Data}
-use Rattle.reader.specs.declared.machine.Met.the-variants.{Nothing, Whole}
-use Rattle.reader.specs.declared.machine.Step.{Step}
-use Rattle.reader.specs.Machine.{on, dropped, idleStep, counted, endStep, valueStep, dataStep, stepBy, stepOf}
-use Rattle.reader.specs.Walk.{collectedOf, stored}
-use Rattle.reader.proofs.Kept.{and-none}
+use Rattle.machine.specs.declared.phase.Phase.{Phase}
+use Rattle.machine.specs.declared.phase.Phase.the-variants.{Idle, Kind, First, Second, Third, Fourth, Data}
+use Rattle.machine.specs.declared.step.Met.the-variants.{Nothing, Whole}
+use Rattle.machine.specs.declared.step.Step.{Step}
+use Rattle.machine.specs.Machine.{on, dropped, idleStep, counted, endStep, valueStep, dataStep, stepBy, stepOf}
+use Rattle.machine.specs.Walk.{collectedOf, stored}
+use Rattle.machine.proofs.Kept.{and-none}
 use Rattle.writer.specs.Block.{countWords, blockWords}
 use Rattle.writer.specs.State.{most}
 use Rattle.writer.specs.Adding.{valued}

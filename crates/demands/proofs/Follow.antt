@@ -32,7 +32,7 @@ use Rattle.writer.proofs.Keeps.{close-clear}
 use Rattle.writer.proofs.Pieces.{laid-ok}
 use Rattle.writer.proofs.Refusals.{can-add, can-close}
 use Rattle.reader.specs.declared.state.Reader.{Reader}
-use Rattle.reader.specs.Phases.{isBusy}
+use Rattle.machine.specs.Phases.{isBusy}
 use Rattle.reader.specs.Jump.{jumpFrom}
 use Rattle.reader.specs.Reading.{goesOn, readFault}
 use Rattle.demands.specs.Sending.{Call, opens, adds, closes, Sent, Desk, with, openedBy, addedBy, closedBy, sendsBy, after, sends, sentBy}

@@ -19,12 +19,12 @@ use Rattle.course.specs.declared.Last.the-variants.{Number}
 use Rattle.course.specs.declared.Place.{Place}
 use Rattle.course.specs.declared.Place.the-variants.{Shut, At}
 use Rattle.course.specs.Course.{blocksEnd}
-use Rattle.reader.specs.declared.machine.Phase.{Phase}
-use Rattle.reader.specs.declared.machine.Met.{Met}
-use Rattle.reader.specs.declared.machine.Met.the-variants.{Nothing, Whole, Lost}
+use Rattle.machine.specs.declared.phase.Phase.{Phase}
+use Rattle.machine.specs.declared.step.Met.{Met}
+use Rattle.machine.specs.declared.step.Met.the-variants.{Nothing, Whole, Lost}
 use Rattle.reader.specs.declared.state.Reader.{Reader}
-use Rattle.reader.specs.Walk.{Walk, isNothing, walkOf}
-use Rattle.reader.specs.Places.{placesIn, walkPlaces}
+use Rattle.machine.specs.Walk.{Walk, isNothing, walkOf}
+use Rattle.machine.specs.Places.{placesIn, walkPlaces}
 use Rattle.reader.specs.State.{impossible}
 use Rattle.reader.specs.Reading.{Call, call, becomes, begun, wordsFrom, walkFrom, toldBy, readFault, reading}
 use Rattle.reader.specs.Lending.{isLast}

@@ -13,10 +13,10 @@ use Rattle.line.specs.Layout.{payloadAt}
 use Rattle.course.specs.declared.Last.the-variants.{Unknown, Number}
 use Rattle.course.specs.declared.Place.the-variants.{Shut}
 use Rattle.course.specs.Course.{blocksEnd}
-use Rattle.reader.specs.declared.machine.Phase.the-variants.{Idle}
+use Rattle.machine.specs.declared.phase.Phase.the-variants.{Idle}
 use Rattle.reader.specs.declared.state.Reader.{Reader}
-use Rattle.reader.specs.Phases.{isBusy}
-use Rattle.reader.specs.Places.{placesIn}
+use Rattle.machine.specs.Phases.{isBusy}
+use Rattle.machine.specs.Places.{placesIn}
 use Rattle.reader.specs.Jump.{jumpFrom}
 use Rattle.reader.specs.Reading.{becomes, goesOn}
 use Rattle.demands.specs.Hearing.{Heard, is-refused, is-begun, is-end}

@@ -20,11 +20,11 @@ use Rattle.course.specs.declared.Last.{Last}
 use Rattle.course.specs.declared.Last.the-variants.{Unknown, Number}
 use Rattle.course.specs.Course.{nextNumber}
 use Rattle.writer.specs.Block.{countWords, blockWords}
-use Rattle.reader.specs.declared.machine.Phase.the-variants.{Idle}
+use Rattle.machine.specs.declared.phase.Phase.the-variants.{Idle}
 use Rattle.reader.specs.declared.state.Reader.{Reader}
-use Rattle.reader.specs.Phases.{isBusy}
-use Rattle.reader.specs.Machine.{counted, endStep, valueStep, stepOf}
-use Rattle.reader.specs.Walk.{stored}
+use Rattle.machine.specs.Phases.{isBusy}
+use Rattle.machine.specs.Machine.{counted, endStep, valueStep, stepOf}
+use Rattle.machine.specs.Walk.{stored}
 use Rattle.reader.specs.declared.jump.Jump.the-variants.{Known}
 use Rattle.reader.specs.Jump.{folded, jumpFrom, isZero}
 use Rattle.reader.specs.Reading.{goesOn}

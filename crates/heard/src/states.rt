@@ -7,7 +7,7 @@ use crate::steps;
 use course::Last;
 use course::Place;
 use line::settings::Settings;
-use reader::machine::Phase;
+use machine::phase::Phase;
 use reader::state::Reader;
 
 // `last KNOWN NUMBER`

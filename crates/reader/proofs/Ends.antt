@@ -19,17 +19,17 @@ use Rattle.line.specs.Check.{numberOf, settingsOf, fitsLength, fits, lineFault}
 use Rattle.course.specs.declared.Place.the-variants.{Shut, At}
 use Rattle.course.specs.Course.{blocksEnd}
 use Rattle.course.proofs.CourseLaws.{end-in-area, grid-left}
-use Rattle.reader.specs.declared.machine.Phase.{Phase}
-use Rattle.reader.specs.declared.machine.Met.{Met}
-use Rattle.reader.specs.declared.machine.Met.the-variants.{Nothing, Whole, Lost}
+use Rattle.machine.specs.declared.phase.Phase.{Phase}
+use Rattle.machine.specs.declared.step.Met.{Met}
+use Rattle.machine.specs.declared.step.Met.the-variants.{Nothing, Whole, Lost}
 use Rattle.reader.specs.declared.state.Reader.{Reader}
 use Rattle.reader.specs.declared.state.Event.the-variants.{End}
-use Rattle.reader.specs.Walk.{Walk, isNothing, walkOf}
-use Rattle.reader.specs.Places.{placesIn, walkPlaces}
+use Rattle.machine.specs.Walk.{Walk, isNothing, walkOf}
+use Rattle.machine.specs.Places.{placesIn, walkPlaces}
 use Rattle.reader.specs.State.{capacity}
 use Rattle.reader.specs.Reading.{Call, call, refused, begun, wordsFrom, walkFrom, toldBy, readFault, reading}
 use Rattle.reader.specs.Lending.{isLast, endsWithin}
-use Rattle.reader.proofs.Kept.{walk-kept, places-along, places-some}
+use Rattle.machine.proofs.Kept.{walk-kept, places-along, places-some}
 use Rattle.reader.proofs.Ready.{Ready, ready, at-q, in-end, words-long}
 use Rattle.reader.proofs.ReadLaws.{grid}
 use Rattle.reader.proofs.Stays.{read-possible}

@@ -19,7 +19,7 @@ use Rattle.course.specs.Course.{blocksEnd, impossibleAfter}
 use Rattle.line.proofs.SystemLaws.{fitting}
 use Rattle.line.proofs.AreaLaws.{area-most}
 use Rattle.course.proofs.CourseLaws.{end-in-area, placed-end, Begun, begun, begun-possible}
-use Rattle.reader.specs.Phases.{isBusy, misphased}
+use Rattle.machine.specs.Phases.{isBusy, misphased}
 use Rattle.reader.specs.declared.state.Reader.{Reader}
 use Rattle.reader.specs.State.{capacity, impossible}
 use Rattle.reader.specs.Reading.{wordsFrom, readFault}

@@ -22,13 +22,13 @@ use Rattle.line.specs.Check.{low, numberOf, settingsOf, numbered, headFaults, p
 use Rattle.course.specs.Course.{isAt, misplaced}
 use Rattle.line.proofs.SettingsLaws.{same-block}
 use Rattle.course.proofs.CourseLaws.{start-placed, variable-placed, grid-next, grid-left, begun}
-use Rattle.reader.specs.declared.machine.Phase.{Phase}
-use Rattle.reader.specs.declared.machine.Phase.the-variants.{Idle}
-use Rattle.reader.specs.declared.machine.Met.{Met}
-use Rattle.reader.specs.declared.machine.Met.the-variants.{Nothing, Whole, Lost}
-use Rattle.reader.specs.Phases.{isBusy, misphased}
-use Rattle.reader.specs.Walk.{Walk, walkOf}
-use Rattle.reader.specs.Places.{placesIn, walkPlaces}
+use Rattle.machine.specs.declared.phase.Phase.{Phase}
+use Rattle.machine.specs.declared.phase.Phase.the-variants.{Idle}
+use Rattle.machine.specs.declared.step.Met.{Met}
+use Rattle.machine.specs.declared.step.Met.the-variants.{Nothing, Whole, Lost}
+use Rattle.machine.specs.Phases.{isBusy, misphased}
+use Rattle.machine.specs.Walk.{Walk, walkOf}
+use Rattle.machine.specs.Places.{placesIn, walkPlaces}
 use Rattle.reader.specs.declared.state.Reader.{Reader}
 use Rattle.reader.specs.declared.state.Event.{Event}
 use Rattle.reader.specs.declared.state.Event.the-variants.{Refused, Begun as BegunWith, Block, Drop, End}
@@ -36,7 +36,7 @@ use Rattle.reader.specs.declared.state.Told.{Told}
 use Rattle.reader.specs.Jump.{jumpFrom, isZero}
 use Rattle.reader.specs.State.{capacity, fresh, impossible}
 use Rattle.reader.specs.Reading.{Call, refused, goesOn, begun as beginning, starts, wordsFrom, walkFrom, toldBy, goesFrom, readFault, readFrom, reading}
-use Rattle.reader.proofs.Kept.{and-none, walk-kept, places-along}
+use Rattle.machine.proofs.Kept.{and-none, walk-kept, places-along}
 use Rattle.reader.proofs.Ready.{course-of, phase-of, possible-by, Ready, ready, at-q, in-end, words-long}
 
 -- ---- a line refused

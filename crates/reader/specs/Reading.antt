@@ -19,16 +19,16 @@ use Rattle.line.specs.Settings.{sameSettings}
 use Rattle.line.specs.Layout.{payloadAt}
 use Rattle.line.specs.Check.{fitsLength, checkedOf}
 use Rattle.course.specs.Course.{blocksEnd}
-use Rattle.reader.specs.declared.machine.Phase.{Phase}
-use Rattle.reader.specs.declared.machine.Phase.the-variants.{Idle}
-use Rattle.reader.specs.declared.machine.Met.{Met}
-use Rattle.reader.specs.declared.machine.Met.the-variants.{Nothing, Whole, Lost}
+use Rattle.machine.specs.declared.phase.Phase.{Phase}
+use Rattle.machine.specs.declared.phase.Phase.the-variants.{Idle}
+use Rattle.machine.specs.declared.step.Met.{Met}
+use Rattle.machine.specs.declared.step.Met.the-variants.{Nothing, Whole, Lost}
 use Rattle.reader.specs.declared.state.Reader.{Reader}
 use Rattle.reader.specs.declared.state.Event.the-variants.{Refused, Begun, Block, Drop, End}
 use Rattle.reader.specs.declared.state.Told.{Told}
-use Rattle.reader.specs.Phases.{isBusy}
-use Rattle.reader.specs.Walk.{Walk, walkOf}
-use Rattle.reader.specs.Places.{placesIn, walkPlaces}
+use Rattle.machine.specs.Phases.{isBusy}
+use Rattle.machine.specs.Walk.{Walk, walkOf}
+use Rattle.machine.specs.Places.{placesIn, walkPlaces}
 use Rattle.reader.specs.Jump.{jumpFrom, isZero}
 use Rattle.reader.specs.State.{capacity, impossible}
 

@@ -6,9 +6,9 @@ use Rattle.course.specs.declared.Last.the-variants.{Unknown}
 use Rattle.course.specs.declared.Place.the-variants.{Shut}
 use Rattle.line.specs.Settings.{noSettings}
 use Rattle.course.specs.Course.{impossibleAfter}
-use Rattle.reader.specs.declared.machine.Phase.the-variants.{Idle}
+use Rattle.machine.specs.declared.phase.Phase.the-variants.{Idle}
 use Rattle.reader.specs.declared.state.Reader.{Reader}
-use Rattle.reader.specs.Phases.{isBusy, misphased}
+use Rattle.machine.specs.Phases.{isBusy, misphased}
 
 -- the words of the room
 abbrev pub capacity : ℕ

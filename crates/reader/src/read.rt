@@ -1,19 +1,19 @@
 // The reading call. With no line begun it begins one or refuses it; later it goes on from the place in the line to a block, a
 // drop or the line's end. Words of a begun line are not checked again.
 use crate::begin;
-use crate::machine;
-use crate::machine::Met;
-use crate::machine::Phase;
-use crate::places;
 use crate::state::Event;
 use crate::state::Reader;
 use crate::state::Told;
-use crate::walk;
-use crate::walk::Walked;
 use course::Place;
 use line::check;
 use line::fixed;
 use line::systems;
+use machine::phase;
+use machine::phase::Phase;
+use machine::places;
+use machine::step::Met;
+use machine::walk;
+use machine::walk::Walked;
 ghost use mathlib.Core.Path.{_≡_};
 ghost use mathlib.Core.Bool.{false};
 ghost use Prim.Native.Nat.{_+_, _≤_};
@@ -22,7 +22,7 @@ ghost use Rattle.line.specs.Systems.{systemOf};
 ghost use Rattle.line.specs.Fixed.{sizeOf};
 ghost use Rattle.course.specs.Course.{blocksEnd};
 ghost use Rattle.course.specs.declared.Place.the-variants.{At};
-ghost use Rattle.reader.specs.Walk.{leaves};
+ghost use Rattle.machine.specs.Walk.{leaves};
 ghost use Rattle.reader.specs.Reading.{call, becomes, walkFrom, toldBy, goesFrom, readFault, reading};
 
 // What a call asks before it reads: the lower of 1 and 2 that holds, or 0; and then where blocks end in the line, and the size of a fixed
@@ -57,11 +57,11 @@ fn ask(st: Reader, long: usize, room: usize) -> Asked
     if !(check::is_fit(st.system, st.mode, long) & (room == 16384)) {
         return barred(1);
     }
-    let x = course::look(st.system, last, settings, place, machine::is_busy(phase));
+    let x = course::look(st.system, last, settings, place, phase::is_busy(phase));
     if x.impossible {
         return barred(2);
     }
-    if machine::is_misphased(16384, phase) {
+    if phase::is_misphased(16384, phase) {
         return barred(2);
     }
     Asked {
@@ -86,7 +86,7 @@ fn walk_from(st: Reader, end: usize, size: u16, q: usize, line: &[u16], room: &m
     if fixed::is_variable(settings.block) {
         return walk::walk(st.mode, phase, &line[i..e], room);
     }
-    places::walk_places(st.mode, phase, size as usize, &line[i..e], room)
+    places::walk_fixed(st.mode, phase, size as usize, &line[i..e], room)
 }
 
 // The state with another place and phase.

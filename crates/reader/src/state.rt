@@ -1,11 +1,11 @@
 // The reader's state and what its calls tell; which states are impossible.
 use crate::jump::Jump;
-use crate::machine;
-use crate::machine::Phase;
 use course::Last;
 use course::Place;
 use line::settings;
 use line::settings::Settings;
+use machine::phase;
+use machine::phase::Phase;
 ghost use mathlib.Core.Path.{_≡_};
 ghost use Rattle.reader.specs.State.{fresh, impossible};
 
@@ -68,6 +68,6 @@ pub fn is_impossible(st: Reader) -> bool
     let settings = st.settings;
     let place = st.place;
     let phase = st.phase;
-    let lines = course::is_impossible(st.system, last, settings, place, machine::is_busy(phase));
-    lines | machine::is_misphased(16384, phase)
+    let lines = course::is_impossible(st.system, last, settings, place, phase::is_busy(phase));
+    lines | phase::is_misphased(16384, phase)
 }

@@ -7,7 +7,7 @@ use borrow.Author.Tests.{not-true, not-false}
 use Rattle.lists.proofs.Tests.{or-left, or-right, false-or}
 use Rattle.line.specs.Check.{fitsLength}
 use Rattle.course.specs.Course.{impossibleAfter}
-use Rattle.reader.specs.Phases.{isBusy, misphased}
+use Rattle.machine.specs.Phases.{isBusy, misphased}
 use Rattle.reader.specs.State.{capacity, impossible}
 use Rattle.reader.proofs.ReadLaws.{fault-1, fault-2, fault-0}
 use borrow.Author.Needs.{needs}

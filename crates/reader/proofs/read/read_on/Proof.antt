@@ -4,7 +4,7 @@ use Prim.Native.Nat.{_+_, _≤_}
 use native.Mathlib.Omega.{arith}
 use Rattle.line.specs.Systems.{systemOf}
 use Rattle.reader.specs.declared.state.Told.{Told}
-use Rattle.reader.specs.Walk.{Walk}
+use Rattle.machine.specs.Walk.{Walk}
 use Rattle.reader.specs.Reading.{call, goesFrom}
 use Rattle.reader.proofs.Ready.{ready}
 use Rattle.reader.proofs.ReadLaws.{next-small}
