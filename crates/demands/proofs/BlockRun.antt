@@ -222,7 +222,7 @@ data-class room k n m Illegal e = refl
 
 value-fits : (room k n m : ℕ) → m < n → m < room → valueStep room k n m ≡ collecting k n m
 unfolding valueStep
-value-fits room k n m a b = pick-false _ _ (and-none (not (eqb n 0)) (leb n m) (lt-leb n m a)) ∙ pick-false _ _ (lt-leb room m b)
+value-fits room k n m a b = pick-false _ _ (and-none (not (eqb n 0)) (leb n m) (lt-leb n m a)) ∙ pick-false _ _ (and-none (eqb n 0) (leb room m) (lt-leb room m b))
 
 data-step : (mode room k n m v : ℕ) → ltb v (values mode) ≡ true → m < n → m < room → stepOf room (Data k n m) (wordOf mode v) ≡ collecting k n m
 unfolding stepOf

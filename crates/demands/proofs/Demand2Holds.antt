@@ -23,8 +23,7 @@ use Rattle.writer.proofs.Refusals.{can-add}
 use Rattle.writer.proofs.Writing.{written}
 use Rattle.reader.specs.State.{capacity, fresh}
 use Rattle.reader.specs.Jump.{jumpFrom}
-use Rattle.reader.proofs.Stays.{fresh-possible}
-use Rattle.reader.proofs.Accepts.{accepted-exactly}
+use Rattle.reader.proofs.AtCapacity.{fresh-possible, accepted-exactly}
 use Rattle.demands.specs.Sending.{Call, opens, adds, closes, Piece, Complete, Sent, Desk, start, pieceNow, completeNow, openedBy, addedBy, closedBy, sendsBy, after, sends, sentBy, sentFresh}
 use Rattle.demands.specs.Hearing.{Heard, is-begun, is-block, is-end, Reads}
 use Rattle.demands.specs.Damage.{Fate, kept, isKept, remain, Refusing, allOn, survivors}

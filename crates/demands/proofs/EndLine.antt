@@ -34,7 +34,7 @@ use Rattle.reader.specs.declared.state.Reader.{Reader}
 use Rattle.reader.specs.State.{capacity}
 use Rattle.machine.specs.Places.{placesIn}
 use Rattle.reader.specs.Reading.{readFault}
-use Rattle.reader.proofs.Ends.{unfaulted}
+use Rattle.reader.proofs.AtCapacity.{unfaulted}
 use Rattle.demands.specs.Sending.{Desk, closedBy}
 use Rattle.demands.specs.Hearing.{Heard}
 use Rattle.demands.specs.Damage.{allOn, survivors}

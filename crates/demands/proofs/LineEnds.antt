@@ -14,9 +14,9 @@ use Rattle.line.specs.Layout.{areaLength}
 use Rattle.line.specs.Check.{settingsOf, lineFault}
 use Rattle.course.specs.declared.Place.the-variants.{Shut}
 use Rattle.reader.specs.declared.state.Reader.{Reader}
-use Rattle.reader.specs.Reading.{Call, readFault, reading}
+use Rattle.reader.specs.Reading.{Call, readFault, reading, readingIn}
 use Rattle.reader.specs.Lending.{isLast, endsWithin}
-use Rattle.reader.proofs.Ends.{line-ends}
+use Rattle.reader.proofs.AtCapacity.{line-ends}
 use Rattle.demands.specs.Hearing.{Heard, Lends, last, more, done, next, Readable}
 use Rattle.demands.proofs.LineLends.{hears, refuses-line}
 
@@ -24,7 +24,7 @@ use Rattle.demands.proofs.LineLends.{hears, refuses-line}
 -- refused with 1 or 2: at once, and everything is left
 faulted-last : (st : Reader) (line room : List ℕ) → eqb (readFault st (length line) (length room)) 0 ≡ false
     → (isLast (reading st line room .told .event) ≡ true) × (reading st line room .told .state ≡ st)
-unfolding reading
+unfolding readingIn
 faulted-last st line room e = (ap (λ (z : Call). isLast (z .told .event)) (pick-false _ _ e), ap (λ (z : Call). z .told .state) (pick-false _ _ e))
 
 faulted-shut : (st : Reader) (line room : List ℕ) (hs : List Heard) (st′ : Reader) (room′ : List ℕ) → st .place ≡ Shut

@@ -28,11 +28,9 @@ use Rattle.machine.specs.Places.{placesIn, walkPlaces}
 use Rattle.reader.specs.State.{impossible}
 use Rattle.reader.specs.Reading.{Call, call, becomes, begun, wordsFrom, walkFrom, toldBy, readFault, reading}
 use Rattle.reader.specs.Lending.{isLast}
-use Rattle.reader.proofs.Ready.{Ready, ready}
+use Rattle.reader.proofs.AtCapacity.{Ready, ready, read-possible, by-place, accepts, refuses, unfaulted, call-moves}
 use Rattle.reader.proofs.ReadLaws.{grid}
-use Rattle.reader.proofs.Stays.{read-possible}
-use Rattle.reader.proofs.Accepts.{by-place, accepts, refuses}
-use Rattle.reader.proofs.Ends.{Same, unfaulted, call-moves}
+use Rattle.reader.proofs.Ends.{Same}
 use Rattle.demands.specs.Hearing.{Heard, is-end, heardOf, hear, Lends, last, more}
 use Rattle.demands.proofs.Run.{Now, now, metHeard, runTo, runOut, placesTo, placesOut}
 use Rattle.demands.proofs.PlaceRun.{drop-take}

@@ -31,7 +31,7 @@ use Rattle.reader.specs.Jump.{jumpFrom, isZero}
 use Rattle.reader.specs.State.{capacity, impossible}
 use Rattle.reader.specs.Reading.{goesOn}
 use Rattle.reader.proofs.JumpLaws.{system-jump-zero}
-use Rattle.reader.proofs.Ready.{course-of}
+use Rattle.reader.proofs.AtCapacity.{course-of}
 use Rattle.demands.specs.Sending.{Piece, Desk, openedBy, joinedPieces}
 use Rattle.demands.specs.Damage.{allOn}
 use Rattle.demands.proofs.Run.{Now, now, idle, runTo}

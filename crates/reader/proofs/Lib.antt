@@ -6,4 +6,5 @@ pub mod EventLaws
 pub mod Accepts
 pub mod ReadLaws
 pub mod Ends
+pub mod AtCapacity
 pub mod JumpSamples

@@ -1,6 +1,7 @@
 // The call that begins a line: it checks the line and reads no word of its area.
 use crate::jump;
 use crate::jump::Jump;
+use crate::state;
 use crate::state::Event;
 use crate::state::Reader;
 use crate::state::Told;
@@ -31,14 +32,7 @@ pub fn refuse(st: Reader, fault: u8) -> Told
         answer: fault,
         dropped: phase::is_busy(phase),
     };
-    let state = Reader {
-        system: st.system,
-        mode: st.mode,
-        last: Last::Unknown,
-        settings: settings,
-        place: Place::Shut,
-        phase: Phase::Idle,
-    };
+    let state = state::becomes(st, Last::Unknown, settings, Place::Shut, Phase::Idle);
     Told {
         event: event,
         state: state,
@@ -83,14 +77,7 @@ pub fn begin_line(st: Reader, n: u16, t: Settings) -> Told
         dropped: phase::is_busy(phase) & !goes,
     };
     let next = phase_at_start(goes, phase);
-    let state = Reader {
-        system: st.system,
-        mode: st.mode,
-        last: Last::Number(n),
-        settings: t,
-        place: Place::At(0),
-        phase: next,
-    };
+    let state = state::becomes(st, Last::Number(n), t, Place::At(0), next);
     Told {
         event: event,
         state: state,

@@ -8,6 +8,10 @@ use machine::phase;
 use machine::phase::Phase;
 ghost use mathlib.Core.Path.{_≡_};
 ghost use Rattle.reader.specs.State.{fresh, impossible};
+ghost use Rattle.reader.specs.Reading.{becomes};
+
+// The words of the room.
+pub const CAPACITY: usize = 16384;
 
 pub struct Reader {
     pub system: u8,
@@ -60,6 +64,20 @@ pub fn fresh_reader(system: u8, mode: u8) -> Reader
     }
 }
 
+// The same system and mode, and all else anew.
+pub(crate) fn becomes(st: Reader, last: Last, t: Settings, place: Place, phase: Phase) -> Reader
+    ensures { λ r. ⌜ r ≡ becomes st last t place phase ⌝ }
+{
+    Reader {
+        system: st.system,
+        mode: st.mode,
+        last: last,
+        settings: t,
+        place: place,
+        phase: phase,
+    }
+}
+
 // No reader can have come into this state.
 pub fn is_impossible(st: Reader) -> bool
     ensures { λ r. ⌜ r ≡ impossible st ⌝ }
@@ -69,5 +87,5 @@ pub fn is_impossible(st: Reader) -> bool
     let place = st.place;
     let phase = st.phase;
     let lines = course::is_impossible(st.system, last, settings, place, phase::is_busy(phase));
-    lines | phase::is_misphased(16384, phase)
+    lines | phase::is_misphased(CAPACITY, phase)
 }
