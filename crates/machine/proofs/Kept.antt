@@ -78,7 +78,7 @@ value-small room n m bound true x y low high = omega (arith, leb-false room m y)
 value-small room n m bound false x y low high = omega (arith, leb-false n m x)
 
 value-by : (room k n m : ℕ) (a b : Bool) → (not (eqb n 0) && leb n m) ≡ a → (eqb n 0 && leb room m) ≡ b → ltb room n ≡ false
-    → misphased room (pick a (dropped 5) (pick b (dropped 6) (record { phase = Data k n (m + 1); met = Nothing; keeps = true })) .phase) ≡ false
+    → misphased room (pick a (dropped 5) (pick b (dropped 6) (record { phase = Data k n (m + 1); met = Nothing; keeps = ltb m room })) .phase) ≡ false
 unfolding pick
 value-by room k n m true b x y e = refl
 value-by room k n m false true x y e = refl

@@ -1,15 +1,12 @@
 -- Laws of the walk: words taken before, the next word, and two parts walked one after the other.
 -- Assumes nothing.
 use mathlib.Core.Path.{_≡_, refl, sym, ap, _∙_, subst}
-use mathlib.Core.Bool.{Bool, true, false, _&&_}
+use mathlib.Core.Bool.{true, false}
 use mathlib.Core.List.{List, [], _∷_, _++_}
-use Prim.Native.Nat.{ℕ, zero, suc, _+_, _≤_}
+use Prim.Native.Nat.{ℕ, _+_}
 use native.Mathlib.Nat.{zero-add, add-assoc}
-use native.Mathlib.Omega.{arith}
-use lib.Dec.{T, ltb}
-use lib.ListN.{length, set}
-use borrow.Author.Tests.{ltb-false}
-use Rattle.lists.specs.Tests.{pick}
+use lib.Dec.{T}
+use lib.ListN.{length}
 use Rattle.words.specs.Modes.{valueOf}
 use Rattle.machine.specs.declared.phase.Phase.{Phase}
 use Rattle.machine.specs.declared.step.Met.{Met}
@@ -24,17 +21,6 @@ past-zero x = ap (λ (n : ℕ). after (x .answer .phase) (x .answer .met) n (x .
 
 pub past-past : (a b : ℕ) (x : Walk) → past a (past b x) ≡ past (a + b) x
 past-past a b x = ap (λ (n : ℕ). after (x .answer .phase) (x .answer .met) n (x .room)) (sym (add-assoc a b (x .answer .taken)))
-
--- ---- a value that is kept; beyond the room's end it changes nothing
-set-beyond : (l : List ℕ) (m v : ℕ) → length l ≤ m → l ≡ set l m v
-set-beyond [] m v h = refl
-set-beyond (x ∷ l) zero v h = absurd (omega arith)
-set-beyond (x ∷ l) (suc m) v h = ap (λ (t : List ℕ). x ∷ t) (set-beyond l m v (omega arith))
-
-pub stored-nowhere : (keeps : Bool) (m v : ℕ) (room : List ℕ) → (keeps && ltb m (length room)) ≡ false → room ≡ stored keeps m v room
-unfolding stored pick
-stored-nowhere true m v room e = set-beyond room m v (ltb-false m (length room) e)
-stored-nowhere false m v room e = refl
 
 -- ---- the next word
 pub goes : (met : Met) (stop on : Walk) → isNothing met ≡ true → unless met stop on ≡ on

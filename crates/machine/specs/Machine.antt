@@ -56,10 +56,12 @@ counted room k n = pick (ltb room n) (dropped 3) (on (Data k n 0))
 unfoldable pub endStep : ℕ → ℕ → ℕ → Step
 endStep k n m = pick (eqb n 0 || eqb n m) (record { phase = Idle; met = Whole k m; keeps = false }) (dropped 4)
 
--- A data word past a met count is drop 5; one past the room with no count is drop 6; else its value goes into the room.
+-- A data word past a met count is drop 5; one past the room with no count is drop 6; else its value goes into the room. A stated count
+-- above the room is drop 3 before; where a caller of the machine lends such a phase, a value beyond the room's end goes nowhere.
 unfoldable pub valueStep : ℕ → ℕ → ℕ → ℕ → Step
 valueStep room k n m =
-    pick (not (eqb n 0) && leb n m) (dropped 5) (pick (eqb n 0 && leb room m) (dropped 6) (record { phase = Data k n (m + 1); met = Nothing; keeps = true }))
+    pick (not (eqb n 0) && leb n m) (dropped 5)
+    (pick (eqb n 0 && leb room m) (dropped 6) (record { phase = Data k n (m + 1); met = Nothing; keeps = ltb m room }))
 
 abbrev pub dataStep : ℕ → ℕ → ℕ → ℕ → Class → Step
 dataStep room k n m Separator = again

@@ -119,7 +119,7 @@ fn end_step(kind: u8, n: usize, m: usize) -> Step
     lose(4)
 }
 
-// A data word: past a met count, past the room with no count, or one whose value is kept.
+// A data word: past a met count, past the room with no count, or one whose value goes into the room, if its place is there.
 fn value_step(room: usize, kind: u8, n: usize, m: usize) -> Step
     ensures { λ r. ⌜ r ≡ valueStep room kind n m ⌝ }
 {
@@ -136,7 +136,7 @@ fn value_step(room: usize, kind: u8, n: usize, m: usize) -> Step
             collected: m + 1,
         },
         met: Met::Nothing,
-        keeps: true,
+        keeps: m < room,
     }
 }
 

@@ -8,6 +8,8 @@ use crate::step::Met;
 use crate::step::Step;
 use words::forms;
 ghost use mathlib.Core.Path.{_≡_};
+ghost use mathlib.Core.Bool.{true};
+ghost use Prim.Native.Nat.{_<_};
 ghost use lib.ListN.{length};
 ghost use Rattle.words.specs.Modes.{valueOf};
 ghost use Rattle.machine.specs.Machine.{stepOf};
@@ -31,11 +33,12 @@ pub(crate) fn is_nothing(met: Met) -> bool
     }
 }
 
-// The value of a word that is kept, into the room; beyond the room's end it goes nowhere.
+// The value of a word that is kept, into the room.
 fn put_value(keeps: bool, m: usize, v: u16, room: &mut [u16])
+    requires { ⌜ (keeps ≡ true → m < length (now room)) ⌝ }
     ensures { λ _. ⌜ now (room .exit) ≡ stored keeps m v (now (room .entry)) ⌝ }
 {
-    if keeps & (m < room.len()) {
+    if keeps {
         room[m] = v;
     }
 }

@@ -1,7 +1,10 @@
 -- `machine::walk::take_word` meets its contract. Assumes nothing.
-use mathlib.Core.Path.{ap₂, _∙_}
+use mathlib.Core.Path.{sym, ap, ap₂, _∙_}
 use Prim.Native.Nat.{ℕ}
+use lib.ListN.{length}
+use Rattle.machine.specs.declared.step.Step.{Step}
 use Rattle.machine.specs.Walk.{stored}
+use Rattle.machine.proofs.RunLaws.{keeps-inside}
 use borrow.Author.Needs.{needs}
 use Rattle.machine.proofs.walk.take_word.Statement.{statement}
 use Rattle.machine.proofs.walk.take_word.Tie as tie
@@ -16,7 +19,11 @@ value-of-requires : tie.Need-value-of-requires
 value-of-requires c κs = search needs
 
 put-value-requires : tie.Need-put-value-requires
-put-value-requires c κs = search needs
+put-value-requires c κs = λ e.
+    let s = c .before .before .before in
+    let g = s .before .before .args in
+    rw (c .before .before .collected-of .ensures)
+    (keeps-inside (length (g .room .now)) (g .phase) (g .w) (sym (ap (λ (x : Step). x .keeps) (s .step-word .ensures)) ∙ e))
 
 same-length : tie.Need-same-length
 same-length c = search needs
