@@ -16,8 +16,8 @@ use Rattle.course.specs.Course.{isAt}
 use Rattle.writer.specs.State.{most, isPart}
 use Rattle.writer.specs.Opening.{isNext}
 use Rattle.writer.specs.Course.{joined}
-use Rattle.reader.specs.declared.machine.Phase.the-variants.{Idle}
-use Rattle.reader.specs.Phases.{isBusy}
+use Rattle.machine.specs.declared.phase.Phase.the-variants.{Idle}
+use Rattle.machine.specs.Phases.{isBusy}
 use Rattle.reader.specs.Jump.{jumpFrom}
 use Rattle.demands.specs.Sending.{Call, opens, adds, closes, Block, Piece, Sent, Desk, joinedPieces}
 use Rattle.demands.specs.Hearing.{Heard, is-refused, is-begun, is-block, is-end}

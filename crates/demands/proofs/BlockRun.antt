@@ -22,13 +22,14 @@ use Rattle.words.specs.declared.class.Class.{Class}
 use Rattle.words.specs.declared.class.Class.the-variants.{Byte, Other, Separator, Ending, Illegal}
 use Rattle.words.proofs.FormLaws.{byte-low, byte-in, data-in, byte-data, byte-of-low, value-back}
 use Rattle.words.proofs.ClassLaws.{class-byte, code-not-data, code-class}
-use Rattle.reader.specs.declared.machine.Phase.{Phase}
-use Rattle.reader.specs.declared.machine.Phase.the-variants.{Idle, Kind, First, Second, Third, Fourth, Data}
-use Rattle.reader.specs.declared.machine.Met.the-variants.{Nothing, Whole}
-use Rattle.reader.specs.declared.machine.Step.{Step}
-use Rattle.reader.specs.Machine.{on, dropped, idleStep, counted, endStep, valueStep, dataStep, stepBy, stepOf}
-use Rattle.reader.specs.Walk.{collectedOf, stored}
-use Rattle.reader.proofs.Kept.{and-none}
+use Rattle.machine.specs.declared.phase.Phase.{Phase}
+use Rattle.machine.specs.declared.phase.Phase.the-variants.{Idle, Kind, First, Second, Third, Fourth, Data}
+use Rattle.machine.specs.declared.step.Met.the-variants.{Nothing, Whole}
+use Rattle.machine.specs.declared.step.Step.{Step}
+use Rattle.machine.specs.Machine.{on, dropped, idleStep, counted, endStep, valueStep, dataStep, stepBy, stepOf}
+use Rattle.machine.specs.Walk.{collectedOf, stored}
+use Rattle.machine.proofs.RunLaws.{value-kept}
+use Rattle.machine.proofs.Kept.{and-none}
 use Rattle.writer.specs.Block.{countWords, blockWords}
 use Rattle.writer.specs.State.{most}
 use Rattle.writer.specs.Adding.{valued}
@@ -222,7 +223,7 @@ data-class room k n m Illegal e = refl
 
 value-fits : (room k n m : ℕ) → m < n → m < room → valueStep room k n m ≡ collecting k n m
 unfolding valueStep
-value-fits room k n m a b = pick-false _ _ (and-none (not (eqb n 0)) (leb n m) (lt-leb n m a)) ∙ pick-false _ _ (lt-leb room m b)
+value-fits room k n m a b = value-kept room k n m (and-none (not (eqb n 0)) (leb n m) (lt-leb n m a)) b
 
 data-step : (mode room k n m v : ℕ) → ltb v (values mode) ≡ true → m < n → m < room → stepOf room (Data k n m) (wordOf mode v) ≡ collecting k n m
 unfolding stepOf

@@ -18,7 +18,7 @@ use Rattle.writer.proofs.Stays.{fresh-possible}
 use Rattle.writer.proofs.Writing.{written}
 use Rattle.reader.specs.State.{capacity, fresh}
 use Rattle.reader.specs.Jump.{jumpFrom}
-use Rattle.reader.proofs.Accepts.{accepted-exactly}
+use Rattle.reader.proofs.AtCapacity.{accepted-exactly}
 use Rattle.demands.specs.All.{All}
 use Rattle.demands.specs.Sending.{Call, Piece, Complete, Sent, Desk, start, pieceNow, completeNow, sentBy, sentFresh}
 use Rattle.demands.specs.Hearing.{Heard, is-begun, is-block, is-end, Reads}

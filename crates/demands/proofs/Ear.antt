@@ -11,10 +11,10 @@ use Rattle.line.specs.Check.{numberOf, settingsOf, fits, lineFault}
 use Rattle.course.specs.declared.Last.{Last}
 use Rattle.course.specs.declared.Last.the-variants.{Unknown, Number}
 use Rattle.course.specs.declared.Place.the-variants.{Shut}
-use Rattle.reader.specs.declared.machine.Phase.{Phase}
-use Rattle.reader.specs.declared.machine.Phase.the-variants.{Idle}
+use Rattle.machine.specs.declared.phase.Phase.{Phase}
+use Rattle.machine.specs.declared.phase.Phase.the-variants.{Idle}
 use Rattle.reader.specs.declared.state.Reader.{Reader}
-use Rattle.reader.specs.Phases.{isBusy}
+use Rattle.machine.specs.Phases.{isBusy}
 use Rattle.reader.specs.Jump.{jumpFrom, isZero}
 use Rattle.reader.specs.Reading.{goesOn}
 use Rattle.demands.specs.Hearing.{Heard, is-refused, is-begun, is-end}

@@ -14,8 +14,7 @@ use Rattle.course.specs.declared.Place.the-variants.{Shut}
 use Rattle.reader.specs.declared.state.Reader.{Reader}
 use Rattle.reader.specs.State.{capacity, impossible, fresh}
 use Rattle.reader.specs.Reading.{readFault}
-use Rattle.reader.proofs.Stays.{fresh-possible}
-use Rattle.reader.proofs.Ends.{unfaulted}
+use Rattle.reader.proofs.AtCapacity.{fresh-possible, unfaulted}
 use Rattle.demands.specs.Hearing.{Heard, Lends, ReadsTo, done, next, Reads}
 use Rattle.demands.proofs.Ear.{Ear, Input, unfit, heardOfInput, earAfter, heardAlong, earAlong, inputBy, inputOf, inputsOf}
 use Rattle.demands.proofs.LineLends.{earOf, Takes, hears, refuses-line, leaves-line, lends-keep}

@@ -23,9 +23,9 @@ use Rattle.writer.specs.declared.state.Answer.the-variants.{Done}
 use Rattle.writer.specs.State.{isPart}
 use Rattle.writer.specs.Closing.{closing}
 use Rattle.writer.specs.Course.{joined, areaFrom}
-use Rattle.reader.specs.declared.machine.Phase.{Phase}
-use Rattle.reader.specs.declared.machine.Phase.the-variants.{Idle}
-use Rattle.reader.specs.Places.{placesIn}
+use Rattle.machine.specs.declared.phase.Phase.{Phase}
+use Rattle.machine.specs.declared.phase.Phase.the-variants.{Idle}
+use Rattle.machine.specs.Places.{placesIn}
 use Rattle.demands.specs.Sending.{Desk, closedBy}
 use Rattle.demands.specs.Hearing.{Heard}
 use Rattle.demands.specs.Damage.{allOn, survivors}

@@ -20,7 +20,7 @@ use Rattle.writer.specs.State.{isPart}
 use Rattle.writer.specs.Closing.{closing}
 use Rattle.writer.proofs.Keeps.{close-clear}
 use Rattle.writer.proofs.Refusals.{can-close}
-use Rattle.reader.specs.Phases.{isBusy}
+use Rattle.machine.specs.Phases.{isBusy}
 use Rattle.reader.specs.Jump.{jumpFrom}
 use Rattle.demands.specs.All.{All}
 use Rattle.demands.specs.Sending.{Call, closes, Sent, Desk, with, closedBy, sentBy}

@@ -14,7 +14,7 @@ use Rattle.course.specs.declared.Place.the-variants.{Shut}
 use Rattle.reader.specs.declared.state.Reader.{Reader}
 use Rattle.reader.specs.Reading.{readFault, reading}
 use Rattle.reader.specs.Lending.{isLast, endsWithin}
-use Rattle.reader.proofs.Ends.{line-ends}
+use Rattle.reader.proofs.AtCapacity.{line-ends}
 use Rattle.demands.specs.Hearing.{Heard, Lends, last, more, done, next, Readable}
 use Rattle.demands.proofs.LineLends.{hears, refuses-line, leaves-line}
 

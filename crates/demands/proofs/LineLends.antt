@@ -20,21 +20,19 @@ use Rattle.line.specs.Check.{numberOf, settingsOf, fits, lineFault}
 use Rattle.course.specs.declared.Place.{Place}
 use Rattle.course.specs.declared.Place.the-variants.{Shut, At}
 use Rattle.course.specs.Course.{blocksEnd}
-use Rattle.reader.specs.declared.machine.Phase.{Phase}
-use Rattle.reader.specs.declared.machine.Met.{Met}
-use Rattle.reader.specs.declared.machine.Met.the-variants.{Nothing, Whole, Lost}
+use Rattle.machine.specs.declared.phase.Phase.{Phase}
+use Rattle.machine.specs.declared.step.Met.{Met}
+use Rattle.machine.specs.declared.step.Met.the-variants.{Nothing, Whole, Lost}
 use Rattle.reader.specs.declared.state.Reader.{Reader}
 use Rattle.reader.specs.declared.state.Event.the-variants.{Refused}
-use Rattle.reader.specs.Walk.{Walk, isNothing, walkOf}
-use Rattle.reader.specs.Places.{placesIn, walkPlaces}
+use Rattle.machine.specs.Walk.{Walk, isNothing, walkOf}
+use Rattle.machine.specs.Places.{placesIn, walkPlaces}
 use Rattle.reader.specs.State.{impossible}
-use Rattle.reader.specs.Reading.{Call, call, becomes, goesOn, begun, wordsFrom, walkFrom, toldBy, readFault, reading}
+use Rattle.reader.specs.Reading.{Call, call, becomes, goesOn, begun, wordsFrom, walkFrom, toldBy, readFault, reading, readingIn}
 use Rattle.reader.specs.Lending.{isLast}
-use Rattle.reader.proofs.Ready.{Ready, ready}
+use Rattle.reader.proofs.AtCapacity.{Ready, ready, read-possible, by-place, accepts, refuses, unfaulted, call-moves}
 use Rattle.reader.proofs.ReadLaws.{grid}
-use Rattle.reader.proofs.Stays.{read-possible}
-use Rattle.reader.proofs.Accepts.{by-place, accepts, refuses}
-use Rattle.reader.proofs.Ends.{Same, unfaulted, call-moves}
+use Rattle.reader.proofs.Ends.{Same}
 use Rattle.demands.specs.Hearing.{Heard, is-refused, is-end, heardOf, hear, Lends, last, more}
 use Rattle.demands.proofs.Run.{Now, now, metHeard, runTo, runOut, placesTo, placesOut}
 use Rattle.demands.proofs.PlaceRun.{drop-take}
@@ -385,7 +383,7 @@ refuses-line st line room hs st′ room′ fit at k is bad (more h l) =
 -- ---- refused with 1 or 2: at once, and everything is left
 faulted : (st : Reader) (line room : List ℕ) (k : ℕ) → readFault st (length line) (length room) ≡ suc k
     → reading st line room ≡ call (record { event = Refused (suc k) false; state = st }) room
-unfolding reading
+unfolding readingIn
 faulted st line room k e =
     pick-false _ _ (ap (λ (n : ℕ). eqb n 0) e ∙ eqb·suc-zero k) ∙ ap (λ (n : ℕ). call (record { event = Refused n false; state = st }) room) e
 

@@ -9,7 +9,7 @@ use Rattle.line.specs.Systems.{systemOf}
 use Rattle.line.specs.Fixed.{isVariable, placesOf, sizeOf}
 use Rattle.line.specs.Layout.{payloadAt}
 use Rattle.course.specs.Course.{blocksEnd}
-use Rattle.reader.specs.Places.{placesIn}
+use Rattle.machine.specs.Places.{placesIn}
 use Rattle.demands.specs.Hearing.{Heard}
 use Rattle.demands.proofs.Run.{Now, now, runTo, runOut, placesTo, placesOut}
 

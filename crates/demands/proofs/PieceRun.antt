@@ -12,8 +12,8 @@ use Rattle.lists.specs.Tests.{pick}
 use Rattle.lists.proofs.Lists.{part-add}
 use Rattle.lists.proofs.Tests.{pick-true, pick-false}
 use Rattle.writer.specs.Block.{blockWords}
-use Rattle.reader.specs.declared.machine.Phase.{Phase}
-use Rattle.reader.specs.declared.machine.Phase.the-variants.{Idle}
+use Rattle.machine.specs.declared.phase.Phase.{Phase}
+use Rattle.machine.specs.declared.phase.Phase.the-variants.{Idle}
 use Rattle.demands.specs.Sending.{Piece, joinedPieces}
 use Rattle.demands.specs.Hearing.{Heard, is-block}
 use Rattle.demands.specs.Damage.{allOn}

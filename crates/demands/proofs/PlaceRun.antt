@@ -18,10 +18,10 @@ use Rattle.words.specs.Class.{classOf}
 use Rattle.words.specs.declared.class.Class.{Class}
 use Rattle.words.proofs.FormLaws.{byte-low, value-back}
 use Rattle.words.proofs.ClassLaws.{class-byte}
-use Rattle.reader.specs.declared.machine.Met.{Met}
-use Rattle.reader.specs.declared.machine.Met.the-variants.{Nothing, Whole, Lost}
-use Rattle.reader.specs.Places.{placesIn, placeMet, metAt, placeRoom}
-use Rattle.reader.proofs.PlaceLaws.{met-whole}
+use Rattle.machine.specs.declared.step.Met.{Met}
+use Rattle.machine.specs.declared.step.Met.the-variants.{Nothing, Whole, Lost}
+use Rattle.machine.specs.Places.{placesIn, placeMet, metAt, placeRoom}
+use Rattle.machine.proofs.PlaceLaws.{met-whole}
 use Rattle.writer.specs.Block.{fixedWords}
 use Rattle.writer.specs.Adding.{valued}
 use Rattle.writer.specs.Course.{joined}

@@ -4,13 +4,13 @@ use Prim.Native.Nat.{ℕ}
 use mathlib.Core.List.{List, [], _∷_, _++_, map}
 use lib.ListN.{length, getD, take, drop}
 use Rattle.words.specs.Modes.{valueOf}
-use Rattle.reader.specs.declared.machine.Phase.{Phase}
-use Rattle.reader.specs.declared.machine.Phase.the-variants.{Idle}
-use Rattle.reader.specs.declared.machine.Met.{Met}
-use Rattle.reader.specs.declared.machine.Met.the-variants.{Nothing, Whole, Lost}
-use Rattle.reader.specs.Machine.{stepOf}
-use Rattle.reader.specs.Walk.{collectedOf, stored}
-use Rattle.reader.specs.Places.{metAt, placeRoom}
+use Rattle.machine.specs.declared.phase.Phase.{Phase}
+use Rattle.machine.specs.declared.phase.Phase.the-variants.{Idle}
+use Rattle.machine.specs.declared.step.Met.{Met}
+use Rattle.machine.specs.declared.step.Met.the-variants.{Nothing, Whole, Lost}
+use Rattle.machine.specs.Machine.{stepOf}
+use Rattle.machine.specs.Walk.{collectedOf, stored}
+use Rattle.machine.specs.Places.{metAt, placeRoom}
 use Rattle.demands.specs.Hearing.{Heard, is-block, is-drop}
 
 -- the reader between two words: its phase and the room

@@ -7,8 +7,8 @@ use mathlib.Core.Path.{_≡_, refl, sym, ap, _∙_}
 use lib.ListN.{length, length-set}
 use Rattle.lists.specs.Tests.{pick}
 use Rattle.words.specs.Modes.{valueOf}
-use Rattle.reader.specs.Machine.{stepOf}
-use Rattle.reader.specs.Walk.{collectedOf, stored}
+use Rattle.machine.specs.Machine.{stepOf}
+use Rattle.machine.specs.Walk.{collectedOf, stored}
 use Rattle.demands.specs.Hearing.{Heard}
 use Rattle.demands.proofs.Run.{Now, stepTo, stepOut, runTo, runOut}
 

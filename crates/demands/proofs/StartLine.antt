@@ -19,9 +19,9 @@ use Rattle.course.specs.Course.{placeOf}
 use Rattle.writer.specs.declared.state.Answer.the-variants.{Done}
 use Rattle.writer.specs.State.{isPart}
 use Rattle.writer.specs.Opening.{isNext, opening}
-use Rattle.reader.specs.declared.machine.Phase.{Phase}
-use Rattle.reader.specs.declared.machine.Phase.the-variants.{Idle}
-use Rattle.reader.specs.Phases.{isBusy}
+use Rattle.machine.specs.declared.phase.Phase.{Phase}
+use Rattle.machine.specs.declared.phase.Phase.the-variants.{Idle}
+use Rattle.machine.specs.Phases.{isBusy}
 use Rattle.reader.specs.Jump.{jumpFrom, isZero}
 use Rattle.reader.specs.Reading.{goesOn}
 use Rattle.reader.proofs.JumpLaws.{system-jump-zero}

@@ -9,12 +9,12 @@ use native.Mathlib.Omega.{arith}
 use lib.Dec.{T}
 use lib.ListN.{length, getD, drop}
 use Rattle.words.specs.Modes.{valueOf}
-use Rattle.reader.specs.declared.machine.Phase.{Phase}
-use Rattle.reader.specs.declared.machine.Met.{Met}
-use Rattle.reader.specs.declared.machine.Met.the-variants.{Nothing, Whole, Lost}
-use Rattle.reader.specs.Machine.{stepOf}
-use Rattle.reader.specs.Walk.{Walk, after, past, unless, isNothing, collectedOf, stored, walkOf}
-use Rattle.reader.specs.Places.{metAt, placeRoom, walkPlaces}
+use Rattle.machine.specs.declared.phase.Phase.{Phase}
+use Rattle.machine.specs.declared.step.Met.{Met}
+use Rattle.machine.specs.declared.step.Met.the-variants.{Nothing, Whole, Lost}
+use Rattle.machine.specs.Machine.{stepOf}
+use Rattle.machine.specs.Walk.{Walk, after, past, unless, isNothing, collectedOf, stored, walkOf}
+use Rattle.machine.specs.Places.{metAt, placeRoom, walkPlaces}
 use Rattle.demands.specs.Hearing.{Heard}
 use Rattle.demands.proofs.Run.{Now, now, metHeard, stepTo, stepOut, runTo, runOut, placeTo, placeOut, placesTo, placesOut}
 use Rattle.demands.proofs.DeskOk.{AllLong}

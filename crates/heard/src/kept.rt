@@ -2,7 +2,7 @@
 use course::Last;
 use course::Place;
 use line::settings::Settings;
-use reader::machine::Phase;
+use machine::phase::Phase;
 use reader::state::Reader;
 use writer::state::Rest;
 use writer::state::Writer;

@@ -8,7 +8,7 @@ use course::Last;
 use course::Place;
 use line::settings::Settings;
 use line::systems;
-use reader::machine::Phase;
+use machine::phase::Phase;
 use reader::state::Reader;
 use writer::state::Rest;
 use writer::state::Writer;

@@ -13,13 +13,13 @@ use Rattle.line.specs.Check.{numberOf, settingsOf, lineFault, checkedFrom, chec
 use Rattle.course.specs.declared.Place.{Place}
 use Rattle.course.specs.declared.Place.the-variants.{Shut}
 use Rattle.reader.specs.declared.state.Reader.{Reader}
-use Rattle.reader.specs.Reading.{Call, call, refused, begun, starts, readFault, readFrom, reading}
+use Rattle.reader.specs.Reading.{Call, call, refused, begun, starts, readFaultIn, readFrom, readingIn}
 use Rattle.reader.specs.Lending.{isBegun}
 
 -- no fault 1 or 2: the call goes by the place
-pub by-place : (st : Reader) (line room : List ℕ) (p : Place) → readFault st (length line) (length room) ≡ 0 → st .place ≡ p → reading st line room ≡ readFrom p st line room
-unfolding reading
-by-place st line room p e at = pick-true _ _ (eq-eqb _ 0 e) ∙ ap (λ (x : Place). readFrom x st line room) at
+pub by-place : (c : ℕ) (st : Reader) (line room : List ℕ) (p : Place) → readFaultIn c st (length line) (length room) ≡ 0 → st .place ≡ p → readingIn c st line room ≡ readFrom p st line room
+unfolding readingIn
+by-place c st line room p e at = pick-true _ _ (eq-eqb _ 0 e) ∙ ap (λ (x : Place). readFrom x st line room) at
 
 -- what the call tells of the fault that the line check found
 begins-by : (st : Reader) (line : List ℕ) (n : ℕ) → n ≡ 0 → starts st (checkedFrom n line) ≡ begun st (numberOf line) (settingsOf line)
@@ -32,27 +32,27 @@ unfolding starts
 refuses-by st line zero h = absurd (h refl)
 refuses-by st line (suc n) h = pick-false _ _ (eqb·suc-zero n)
 
-module _ (st : Reader) (line room : List ℕ) (fit : readFault st (length line) (length room) ≡ 0) (at : st .place ≡ Shut) where
-  shut-call : reading st line room ≡ call (starts st (checkedFrom (lineFault (st .system) (st .mode) line) line)) room
+module _ (c : ℕ) (st : Reader) (line room : List ℕ) (fit : readFaultIn c st (length line) (length room) ≡ 0) (at : st .place ≡ Shut) where
+  shut-call : readingIn c st line room ≡ call (starts st (checkedFrom (lineFault (st .system) (st .mode) line) line)) room
   unfolding checkedOf
-  shut-call = by-place st line room Shut fit at
+  shut-call = by-place c st line room Shut fit at
 
   -- no fault: begun, with the number and the settings that stand in the line
-  pub accepts : lineFault (st .system) (st .mode) line ≡ 0 → reading st line room ≡ call (begun st (numberOf line) (settingsOf line)) room
+  pub accepts : lineFault (st .system) (st .mode) line ≡ 0 → readingIn c st line room ≡ call (begun st (numberOf line) (settingsOf line)) room
   accepts e = shut-call ∙ ap (λ x. call x room) (begins-by st line (lineFault (st .system) (st .mode) line) e)
 
   -- a fault: refused, with its number
-  pub refuses : (n : ℕ) → lineFault (st .system) (st .mode) line ≡ n → (n ≡ 0 → ⊥) → reading st line room ≡ call (refused st n) room
+  pub refuses : (n : ℕ) → lineFault (st .system) (st .mode) line ≡ n → (n ≡ 0 → ⊥) → readingIn c st line room ≡ call (refused st n) room
   refuses n is h = shut-call ∙ ap (λ (k : ℕ). call (starts st (checkedFrom k line)) room) is ∙ ap (λ x. call x room) (refuses-by st line n h)
 
 begun-is : (st : Reader) (line : List ℕ) → isBegun (begun st (numberOf line) (settingsOf line) .event) ≡ true
 unfolding begun
 begun-is st line = refl
 
-pub accepted-exactly : (st : Reader) (line room : List ℕ) → readFault st (length line) (length room) ≡ 0 → st .place ≡ Shut
-    → isBegun (reading st line room .told .event) ≡ eqb (lineFault (st .system) (st .mode) line) 0
-accepted-exactly st line room fit at = go (lineFault (st .system) (st .mode) line) refl
+pub accepted-exactly : (c : ℕ) (st : Reader) (line room : List ℕ) → readFaultIn c st (length line) (length room) ≡ 0 → st .place ≡ Shut
+    → isBegun (readingIn c st line room .told .event) ≡ eqb (lineFault (st .system) (st .mode) line) 0
+accepted-exactly c st line room fit at = go (lineFault (st .system) (st .mode) line) refl
   where
-    go : (n : ℕ) → lineFault (st .system) (st .mode) line ≡ n → isBegun (reading st line room .told .event) ≡ eqb n 0
-    go zero is = ap (λ (x : Call). isBegun (x .told .event)) (accepts st line room fit at is) ∙ begun-is st line
-    go (suc n) is = ap (λ (x : Call). isBegun (x .told .event)) (refuses st line room fit at (suc n) is (λ z. omega arith)) ∙ sym (eqb·suc-zero n)
+    go : (n : ℕ) → lineFault (st .system) (st .mode) line ≡ n → isBegun (readingIn c st line room .told .event) ≡ eqb n 0
+    go zero is = ap (λ (x : Call). isBegun (x .told .event)) (accepts c st line room fit at is) ∙ begun-is st line
+    go (suc n) is = ap (λ (x : Call). isBegun (x .told .event)) (refuses c st line room fit at (suc n) is (λ z. omega arith)) ∙ sym (eqb·suc-zero n)

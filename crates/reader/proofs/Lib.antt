@@ -1,9 +1,3 @@
-pub mod PhaseLaws
-pub mod WalkLaws
-pub mod RunLaws
-pub mod Going
-pub mod PlaceLaws
-pub mod Kept
 pub mod Ready
 pub mod Stays
 pub mod SignedLaws
@@ -12,4 +6,5 @@ pub mod EventLaws
 pub mod Accepts
 pub mod ReadLaws
 pub mod Ends
-pub mod ReadSamples
+pub mod AtCapacity
+pub mod JumpSamples

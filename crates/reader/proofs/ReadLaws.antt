@@ -21,14 +21,14 @@ use Rattle.course.specs.declared.Place.the-variants.{At}
 use Rattle.course.specs.Course.{blocksEnd}
 use Rattle.course.proofs.CourseLaws.{end-in-area, placed-end, grid-left, grid-some, grid-count, whole-small}
 use Rattle.reader.specs.declared.state.Reader.{Reader}
-use Rattle.reader.specs.State.{capacity, impossible}
-use Rattle.reader.specs.Reading.{call, wordsFrom, walkFrom, readFault, readFrom, reading}
+use Rattle.reader.specs.State.{impossibleIn}
+use Rattle.reader.specs.Reading.{call, wordsFrom, walkFrom, readFaultIn, readFrom, readingIn}
 use Rattle.reader.specs.declared.state.Event.the-variants.{Refused}
-use Rattle.reader.proofs.Ready.{Ready, at-q, in-end, words-long}
+use Rattle.reader.proofs.Ready.{ReadyIn, ready, at-q, in-end, words-long}
 use Rattle.reader.proofs.Stays.{walk-goes}
 use Rattle.reader.proofs.Accepts.{by-place}
 
-module _ (st : Reader) (q : ℕ) (line room : List ℕ) (at : st .place ≡ At q) (r : Ready st line room) (s : System) (row : s ≡ systemOf (st .system)) where
+module _ {c : ℕ} (st : Reader) (q : ℕ) (line room : List ℕ) (at : st .place ≡ At q) (r : ReadyIn c st line room) (s : System) (row : s ≡ systemOf (st .system)) where
   pub payload-in : s .payload ≤ s .length
   payload-in = rw row (omega (arith, fitting (st .system) (st .mode) line (r .fit) .row .room))
 
@@ -63,7 +63,6 @@ module _ (st : Reader) (q : ℕ) (line room : List ℕ) (at : st .place ≡ At q
     pub one : 1 ≤ size
     pub count : length (wordsFrom st q line) / size ≡ placesOf (systemOf (st .system) .payload) (st .settings .block) - q / size
     pub fits : (placesOf (systemOf (st .system) .payload) (st .settings .block) - q / size) * size ≤ length (wordsFrom st q line)
-    pub small : size ≤ length room
 
   pub grid : isVariable (st .settings .block) ≡ false → (size : ℕ) → size ≡ sizeOf (st .settings .block) → Grid size
   unfolding fitsLength
@@ -74,15 +73,23 @@ module _ (st : Reader) (q : ℕ) (line room : List ℕ) (at : st .place ≡ At q
       let block = st .settings .block in
       let flag = st .settings .flag in
       let left = grid-left p block flag q (placesOf p block - q / sizeOf block) v (b .placed) (omega arith) in
-      let area = end-in-area (st .system) (st .settings) known (eqb-true _ 0 (not-false _ (b .clean))) in
-      let most = area-most p flag in
       rw is
       (record {
         one = grid-some p block flag q v (b .placed) .0;
         count = ap (λ (n : ℕ). n / sizeOf block) (words-long st q line room at r) ∙ grid-count p block flag q v (b .placed);
         fits = omega (arith, words-long st q line room at r, left);
-        small = omega (arith, whole-small p block flag v (block-passes (st .system) (st .settings) (eqb-true _ 0 (not-false _ (b .clean)))), area, most, payload-most (st .system), r .long);
       })
+
+  -- a fixed block fits the room
+  pub block-fits : 1920 ≤ c → isVariable (st .settings .block) ≡ false → sizeOf (st .settings .block) ≤ length room
+  unfolding fitsLength
+  block-fits wide v =
+      let known : isSystem (st .system) ≡ true = both-true (isSystem (st .system)) _ (r .fit) .0 in
+      let clean = eqb-true _ 0 (not-false _ (at-q st q line room at r .clean)) in
+      let p = systemOf (st .system) .payload in
+      let flag = st .settings .flag in
+      let area = end-in-area (st .system) (st .settings) known clean in
+      omega (arith, whole-small p (st .settings .block) flag v (block-passes (st .system) (st .settings) clean), area, area-most p flag, payload-most (st .system), r .long, wide)
 
   -- the place after a walk is within the payload
   pub next-small : q + walkFrom st q line room .answer .taken ≤ 1920
@@ -97,26 +104,33 @@ module _ (st : Reader) (q : ℕ) (line room : List ℕ) (at : st .place ≡ At q
       omega (arith, end, area, area-most p (st .settings .flag), payload-most (st .system))
 
 -- ---- which of 1 and 2 the tests give
-module _ (st : Reader) (long room : ℕ) where
-  pub fault-1 : (fitsLength (st .system) (st .mode) long && eqb room capacity) ≡ false → 1 ≡ readFault st long room
-  unfolding readFault
+module _ (c : ℕ) (st : Reader) (long room : ℕ) where
+  pub fault-1 : (fitsLength (st .system) (st .mode) long && eqb room c) ≡ false → 1 ≡ readFaultIn c st long room
+  unfolding readFaultIn
   fault-1 e = sym (pick-true _ _ (ap not e))
 
-  pub fault-2 : (fitsLength (st .system) (st .mode) long && eqb room capacity) ≡ true → impossible st ≡ true → 2 ≡ readFault st long room
-  unfolding readFault
+  pub fault-2 : (fitsLength (st .system) (st .mode) long && eqb room c) ≡ true → impossibleIn c st ≡ true → 2 ≡ readFaultIn c st long room
+  unfolding readFaultIn
   fault-2 e f = sym (pick-false _ _ (ap not e) ∙ pick-true _ _ f)
 
-  pub fault-0 : (fitsLength (st .system) (st .mode) long && eqb room capacity) ≡ true → impossible st ≡ false → 0 ≡ readFault st long room
-  unfolding readFault
+  pub fault-0 : (fitsLength (st .system) (st .mode) long && eqb room c) ≡ true → impossibleIn c st ≡ false → 0 ≡ readFaultIn c st long room
+  unfolding readFaultIn
   fault-0 e f = sym (pick-false _ _ (ap not e) ∙ pick-false _ _ f)
 
+-- no fault 1 or 2: the capacity is the room's own length
+pub own-capacity : (c : ℕ) (st : Reader) (line room : List ℕ) → readFaultIn c st (length line) (length room) ≡ 0
+    → (length room ≡ c) × (readFaultIn (length room) st (length line) (length room) ≡ 0)
+own-capacity c st line room e =
+    let long = ready c st line room e .long in
+    (long, ap (λ (n : ℕ). readFaultIn n st (length line) (length room)) long ∙ e)
+
 -- ---- what the call tells
-module _ (st : Reader) (line room : List ℕ) (fault : ℕ) (is : fault ≡ readFault st (length line) (length room)) where
-  pub read-refused : (fault ≡ 0 → ⊥) → call (record { event = Refused fault false; state = st }) room ≡ reading st line room
-  unfolding reading
+module _ (c : ℕ) (st : Reader) (line room : List ℕ) (fault : ℕ) (is : fault ≡ readFaultIn c st (length line) (length room)) where
+  pub read-refused : (fault ≡ 0 → ⊥) → call (record { event = Refused fault false; state = st }) room ≡ readingIn c st line room
+  unfolding readingIn
   read-refused h =
       ap (λ (n : ℕ). call (record { event = Refused n false; state = st }) room) is
       ∙ sym (pick-false _ _ (ap (λ (n : ℕ). eqb n 0) (sym is) ∙ ne-eqb fault 0 h))
 
-  pub read-goes : fault ≡ 0 → readFrom (st .place) st line room ≡ reading st line room
-  read-goes h = sym (by-place st line room (st .place) (sym is ∙ h) refl)
+  pub read-goes : fault ≡ 0 → readFrom (st .place) st line room ≡ readingIn c st line room
+  read-goes h = sym (by-place c st line room (st .place) (sym is ∙ h) refl)

@@ -19,38 +19,38 @@ use Rattle.course.specs.Course.{blocksEnd, impossibleAfter}
 use Rattle.line.proofs.SystemLaws.{fitting}
 use Rattle.line.proofs.AreaLaws.{area-most}
 use Rattle.course.proofs.CourseLaws.{end-in-area, placed-end, Begun, begun, begun-possible}
-use Rattle.reader.specs.Phases.{isBusy, misphased}
+use Rattle.machine.specs.Phases.{isBusy, misphased}
 use Rattle.reader.specs.declared.state.Reader.{Reader}
-use Rattle.reader.specs.State.{capacity, impossible}
-use Rattle.reader.specs.Reading.{wordsFrom, readFault}
+use Rattle.reader.specs.State.{impossibleIn}
+use Rattle.reader.specs.Reading.{wordsFrom, readFaultIn}
 
 -- ---- the two parts of the rule
-pub course-of : (st : Reader) → impossible st ≡ false → impossibleAfter (st .system) (st .last) (st .settings) (st .place) (isBusy (st .phase)) ≡ false
-unfolding impossible
-course-of st e = or-false _ (misphased capacity (st .phase)) e .0
+pub course-of : (c : ℕ) (st : Reader) → impossibleIn c st ≡ false → impossibleAfter (st .system) (st .last) (st .settings) (st .place) (isBusy (st .phase)) ≡ false
+unfolding impossibleIn
+course-of c st e = or-false _ (misphased c (st .phase)) e .0
 
-pub phase-of : (st : Reader) → impossible st ≡ false → misphased capacity (st .phase) ≡ false
-unfolding impossible
-phase-of st e = or-false (impossibleAfter (st .system) (st .last) (st .settings) (st .place) (isBusy (st .phase))) (misphased capacity (st .phase)) e .1
+pub phase-of : (c : ℕ) (st : Reader) → impossibleIn c st ≡ false → misphased c (st .phase) ≡ false
+unfolding impossibleIn
+phase-of c st e = or-false (impossibleAfter (st .system) (st .last) (st .settings) (st .place) (isBusy (st .phase))) (misphased c (st .phase)) e .1
 
-pub possible-by : (st : Reader) → Begun (st .system) (st .last) (st .settings) (st .place) (isBusy (st .phase)) → misphased capacity (st .phase) ≡ false → impossible st ≡ false
-unfolding impossible
-possible-by st b e = false-or (begun-possible (st .system) (st .last) (st .settings) (st .place) (isBusy (st .phase)) b) e
+pub possible-by : (c : ℕ) (st : Reader) → Begun (st .system) (st .last) (st .settings) (st .place) (isBusy (st .phase)) → misphased c (st .phase) ≡ false → impossibleIn c st ≡ false
+unfolding impossibleIn
+possible-by c st b e = false-or (begun-possible (st .system) (st .last) (st .settings) (st .place) (isBusy (st .phase)) b) e
 
--- what no fault 1 or 2 says
-pub record Ready (st : Reader) (line room : List ℕ) : Type 0 where
+-- what no fault 1 or 2 says, c being the capacity
+pub record ReadyIn (c : ℕ) (st : Reader) (line room : List ℕ) : Type 0 where
   pub fit : fits (st .system) (st .mode) line ≡ true
-  pub long : length room ≡ capacity
-  pub state : impossible st ≡ false
+  pub long : length room ≡ c
+  pub state : impossibleIn c st ≡ false
 
-pub ready : (st : Reader) (line room : List ℕ) → readFault st (length line) (length room) ≡ 0 → Ready st line room
-unfolding readFault
-ready st line room e =
-    let a = passed 0 (not (fits (st .system) (st .mode) line && eqb (length room) capacity)) _ e in
+pub ready : (c : ℕ) (st : Reader) (line room : List ℕ) → readFaultIn c st (length line) (length room) ≡ 0 → ReadyIn c st line room
+unfolding readFaultIn
+ready c st line room e =
+    let a = passed 0 (not (fits (st .system) (st .mode) line && eqb (length room) c)) _ e in
     let b = both-true (fits (st .system) (st .mode) line) _ (not-false _ (a .0)) in
-    record { fit = b .0; long = eqb-true _ _ (b .1); state = passed 1 (impossible st) 0 (a .1) .0 }
+    record { fit = b .0; long = eqb-true _ _ (b .1); state = passed 1 (impossibleIn c st) 0 (a .1) .0 }
 
-module _ (st : Reader) (q : ℕ) (line room : List ℕ) (at : st .place ≡ At q) (r : Ready st line room) where
+module _ {c : ℕ} (st : Reader) (q : ℕ) (line room : List ℕ) (at : st .place ≡ At q) (r : ReadyIn c st line room) where
   abbrev payload : ℕ
   payload = systemOf (st .system) .payload
 
@@ -63,7 +63,7 @@ module _ (st : Reader) (q : ℕ) (line room : List ℕ) (at : st .place ≡ At q
   pub at-q : Begun (st .system) (st .last) (st .settings) (At q) (isBusy (st .phase))
   at-q =
       begun (st .system) (st .last) (st .settings) (At q) (isBusy (st .phase))
-      (sym (ap (λ (p : Place). impossibleAfter (st .system) (st .last) (st .settings) p (isBusy (st .phase))) at) ∙ course-of st (r .state))
+      (sym (ap (λ (p : Place). impossibleAfter (st .system) (st .last) (st .settings) p (isBusy (st .phase))) at) ∙ course-of c st (r .state))
       (or-right (isBusy (st .phase)) true refl)
 
   pub in-end : q ≤ blocksEnd (systemOf (st .system) .payload) (st .settings .block) (st .settings .flag)

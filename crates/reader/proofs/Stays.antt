@@ -22,27 +22,27 @@ use Rattle.line.specs.Check.{low, numberOf, settingsOf, numbered, headFaults, p
 use Rattle.course.specs.Course.{isAt, misplaced}
 use Rattle.line.proofs.SettingsLaws.{same-block}
 use Rattle.course.proofs.CourseLaws.{start-placed, variable-placed, grid-next, grid-left, begun}
-use Rattle.reader.specs.declared.machine.Phase.{Phase}
-use Rattle.reader.specs.declared.machine.Phase.the-variants.{Idle}
-use Rattle.reader.specs.declared.machine.Met.{Met}
-use Rattle.reader.specs.declared.machine.Met.the-variants.{Nothing, Whole, Lost}
-use Rattle.reader.specs.Phases.{isBusy, misphased}
-use Rattle.reader.specs.Walk.{Walk, walkOf}
-use Rattle.reader.specs.Places.{placesIn, walkPlaces}
+use Rattle.machine.specs.declared.phase.Phase.{Phase}
+use Rattle.machine.specs.declared.phase.Phase.the-variants.{Idle}
+use Rattle.machine.specs.declared.step.Met.{Met}
+use Rattle.machine.specs.declared.step.Met.the-variants.{Nothing, Whole, Lost}
+use Rattle.machine.specs.Phases.{isBusy, misphased}
+use Rattle.machine.specs.Walk.{Walk, walkOf}
+use Rattle.machine.specs.Places.{placesIn, walkPlaces}
 use Rattle.reader.specs.declared.state.Reader.{Reader}
 use Rattle.reader.specs.declared.state.Event.{Event}
 use Rattle.reader.specs.declared.state.Event.the-variants.{Refused, Begun as BegunWith, Block, Drop, End}
 use Rattle.reader.specs.declared.state.Told.{Told}
 use Rattle.reader.specs.Jump.{jumpFrom, isZero}
-use Rattle.reader.specs.State.{capacity, fresh, impossible}
-use Rattle.reader.specs.Reading.{Call, refused, goesOn, begun as beginning, starts, wordsFrom, walkFrom, toldBy, goesFrom, readFault, readFrom, reading}
-use Rattle.reader.proofs.Kept.{and-none, walk-kept, places-along}
-use Rattle.reader.proofs.Ready.{course-of, phase-of, possible-by, Ready, ready, at-q, in-end, words-long}
+use Rattle.reader.specs.State.{fresh, impossibleIn}
+use Rattle.reader.specs.Reading.{Call, refused, goesOn, begun as beginning, starts, wordsFrom, walkFrom, toldBy, goesFrom, readFaultIn, readFrom, readingIn}
+use Rattle.machine.proofs.Kept.{and-none, walk-kept, places-along}
+use Rattle.reader.proofs.Ready.{course-of, phase-of, possible-by, ReadyIn, ready, at-q, in-end, words-long}
 
 -- ---- a line refused
-refused-possible : (st : Reader) (n : ℕ) → impossible (refused st n .state) ≡ false
-unfolding impossible
-refused-possible st n = refl
+refused-possible : (c : ℕ) (st : Reader) (n : ℕ) → impossibleIn c (refused st n .state) ≡ false
+unfolding impossibleIn
+refused-possible c st n = refl
 
 -- ---- a line begun: its number and settings are such as the line check accepts
 record Sound (system : ℕ) (c : Checked) : Type 0 where
@@ -76,56 +76,56 @@ goes-same : (st : Reader) (n : ℕ) (t : Settings) → goesOn st n t ≡ true �
 unfolding goesOn
 goes-same st n t e = both-true (isZero (jumpFrom (systemOf (st .system) .lines) (st .last) n)) _ e .1
 
-varied-by : (st : Reader) (t : Settings) (b : Bool) → isBusy (st .phase) ≡ b → impossible st ≡ false → sameSettings t (st .settings) ≡ true
+varied-by : (c : ℕ) (st : Reader) (t : Settings) (b : Bool) → isBusy (st .phase) ≡ b → impossibleIn c st ≡ false → sameSettings t (st .settings) ≡ true
     → (isBusy (st .phase) && not (isVariable (t .block))) ≡ false
-varied-by st t false is e h = ap (λ (x : Bool). x && not (isVariable (t .block))) is
-varied-by st t true is e h =
+varied-by c st t false is e h = ap (λ (x : Bool). x && not (isVariable (t .block))) is
+varied-by c st t true is e h =
     ap (λ (x : ℕ). isBusy (st .phase) && not (isVariable x)) (same-block t (st .settings) h)
-    ∙ begun (st .system) (st .last) (st .settings) (st .place) (isBusy (st .phase)) (course-of st e) (or-left (isBusy (st .phase)) (isAt (st .place)) is) .varied
+    ∙ begun (st .system) (st .last) (st .settings) (st .place) (isBusy (st .phase)) (course-of c st e) (or-left (isBusy (st .phase)) (isAt (st .place)) is) .varied
 
-kept-by : (st : Reader) (t : Settings) (g : Bool) → impossible st ≡ false → (g ≡ true → sameSettings t (st .settings) ≡ true)
-    → ((isBusy (pick g (st .phase) Idle) && not (isVariable (t .block))) ≡ false) × (misphased capacity (pick g (st .phase) Idle) ≡ false)
+kept-by : (c : ℕ) (st : Reader) (t : Settings) (g : Bool) → impossibleIn c st ≡ false → (g ≡ true → sameSettings t (st .settings) ≡ true)
+    → ((isBusy (pick g (st .phase) Idle) && not (isVariable (t .block))) ≡ false) × (misphased c (pick g (st .phase) Idle) ≡ false)
 unfolding pick
-kept-by st t true e h = (varied-by st t (isBusy (st .phase)) refl e (h refl), phase-of st e)
-kept-by st t false e h = (refl, refl)
+kept-by c st t true e h = (varied-by c st t (isBusy (st .phase)) refl e (h refl), phase-of c st e)
+kept-by c st t false e h = (refl, refl)
 
-begin-possible : (st : Reader) (n : ℕ) (t : Settings) → impossible st ≡ false → not (leb 1 n && leb n (systemOf (st .system) .lines)) ≡ false → settingsFault (st .system) t ≡ 0
-    → impossible (beginning st n t .state) ≡ false
+begin-possible : (c : ℕ) (st : Reader) (n : ℕ) (t : Settings) → impossibleIn c st ≡ false → not (leb 1 n && leb n (systemOf (st .system) .lines)) ≡ false → settingsFault (st .system) t ≡ 0
+    → impossibleIn c (beginning st n t .state) ≡ false
 unfolding beginning
-begin-possible st n t e range clean =
-    let k = kept-by st t (goesOn st n t) e (goes-same st n t) in
-    possible-by _ (record { number = n; numbered = refl; range = range; clean = ap (λ (x : ℕ). not (eqb x 0)) clean; placed = start-placed (st .system) t clean; varied = k .0 }) (k .1)
+begin-possible c st n t e range clean =
+    let k = kept-by c st t (goesOn st n t) e (goes-same st n t) in
+    possible-by c _ (record { number = n; numbered = refl; range = range; clean = ap (λ (x : ℕ). not (eqb x 0)) clean; placed = start-placed (st .system) t clean; varied = k .0 }) (k .1)
 
-told-by : (b : Bool) (x y : Told) → (b ≡ true → impossible (x .state) ≡ false) → impossible (y .state) ≡ false → impossible (pick b x y .state) ≡ false
+told-by : (c : ℕ) (b : Bool) (x y : Told) → (b ≡ true → impossibleIn c (x .state) ≡ false) → impossibleIn c (y .state) ≡ false → impossibleIn c (pick b x y .state) ≡ false
 unfolding pick
-told-by true x y h k = h refl
-told-by false x y h k = k
+told-by c true x y h k = h refl
+told-by c false x y h k = k
 
-start-possible : (st : Reader) (mode : ℕ) (line : List ℕ) → impossible st ≡ false → impossible (starts st (checkedOf (st .system) mode line) .state) ≡ false
+start-possible : (c : ℕ) (st : Reader) (mode : ℕ) (line : List ℕ) → impossibleIn c st ≡ false → impossibleIn c (starts st (checkedOf (st .system) mode line) .state) ≡ false
 unfolding starts
-start-possible st mode line e =
-    let c = checkedOf (st .system) mode line in
-    told-by (eqb (c .fault) 0) (beginning st (c .number) (c .settings)) (refused st (c .fault))
+start-possible c st mode line e =
+    let found = checkedOf (st .system) mode line in
+    told-by c (eqb (found .fault) 0) (beginning st (found .number) (found .settings)) (refused st (found .fault))
     (λ h.
     let s = checked-sound (st .system) mode line (eqb-true _ _ h) in
-    begin-possible st (c .number) (c .settings) e (s .range) (s .clean))
-    (refused-possible st (c .fault))
+    begin-possible c st (found .number) (found .settings) e (s .range) (s .clean))
+    (refused-possible c st (found .fault))
 
 -- ---- a line gone on with
 -- what a walk from place q leaves: a place, and a phase that may stand there
-pub record Goes (st : Reader) (q : ℕ) (x : Walk) : Type 0 where
+pub record Goes (c : ℕ) (st : Reader) (q : ℕ) (x : Walk) : Type 0 where
   pub placed : misplaced (systemOf (st .system) .payload) (st .settings .block) (st .settings .flag) (At (q + x .answer .taken)) ≡ false
   pub varied : (isBusy (x .answer .phase) && not (isVariable (st .settings .block))) ≡ false
-  pub phased : misphased capacity (x .answer .phase) ≡ false
+  pub phased : misphased c (x .answer .phase) ≡ false
 
-module _ (st : Reader) (q : ℕ) (line room : List ℕ) (at : st .place ≡ At q) (r : Ready st line room) where
+module _ {c : ℕ} (st : Reader) (q : ℕ) (line room : List ℕ) (at : st .place ≡ At q) (r : ReadyIn c st line room) where
   abbrev payload : ℕ
   payload = systemOf (st .system) .payload
 
   abbrev block : ℕ
   block = st .settings .block
 
-  variable-goes : isVariable (st .settings .block) ≡ true → Goes st q (walkOf (st .mode) (st .phase) (wordsFrom st q line) room)
+  variable-goes : isVariable (st .settings .block) ≡ true → Goes c st q (walkOf (st .mode) (st .phase) (wordsFrom st q line) room)
   variable-goes v =
       let k = walk-kept (st .mode) (st .phase) (wordsFrom st q line) room in
       let x = walkOf (st .mode) (st .phase) (wordsFrom st q line) room in
@@ -134,11 +134,11 @@ module _ (st : Reader) (q : ℕ) (line room : List ℕ) (at : st .place ≡ At q
         varied = and-none (isBusy (x .answer .phase)) (not (isVariable block)) (ap not v);
         phased =
             subst (λ (n : ℕ). misphased n (x .answer .phase) ≡ false) (r .long)
-            (k .phased (subst (λ (n : ℕ). misphased n (st .phase) ≡ false) (sym (r .long)) (phase-of st (r .state))));
+            (k .phased (subst (λ (n : ℕ). misphased n (st .phase) ≡ false) (sym (r .long)) (phase-of c st (r .state))));
       }
 
   fixed-goes : isVariable (st .settings .block) ≡ false
-      → Goes st q (walkPlaces (st .mode) (st .phase) (placesIn (sizeOf (st .settings .block)) (placesOf (systemOf (st .system) .payload) (st .settings .block) - q / sizeOf (st .settings .block)) (wordsFrom st q line)) room)
+      → Goes c st q (walkPlaces (st .mode) (st .phase) (placesIn (sizeOf (st .settings .block)) (placesOf (systemOf (st .system) .payload) (st .settings .block) - q / sizeOf (st .settings .block)) (wordsFrom st q line)) room)
   fixed-goes v =
       let flag = st .settings .flag in
       let size = sizeOf block in
@@ -149,61 +149,61 @@ module _ (st : Reader) (q : ℕ) (line room : List ℕ) (at : st .place ≡ At q
       record {
         placed = subst (λ (j : ℕ). misplaced payload block flag (At (q + j)) ≡ false) (sym (k .whole)) next;
         varied = ap (λ (p : Phase). isBusy p && not (isVariable block)) (k .phase) ∙ at-q st q line room at r .varied;
-        phased = ap (misphased capacity) (k .phase) ∙ phase-of st (r .state);
+        phased = ap (misphased c) (k .phase) ∙ phase-of c st (r .state);
       }
 
-  pub walk-goes : Goes st q (walkFrom st q line room)
+  pub walk-goes : Goes c st q (walkFrom st q line room)
   unfolding walkFrom
   walk-goes = go (isVariable block) refl
     where
       go : (b : Bool) → isVariable block ≡ b
-          → Goes st q (pick (isVariable block) (walkOf (st .mode) (st .phase) (wordsFrom st q line) room) (walkPlaces (st .mode) (st .phase) (placesIn (sizeOf block) (placesOf payload block - q / sizeOf block) (wordsFrom st q line)) room))
-      go true v = subst (Goes st q) (sym (pick-true _ _ v)) (variable-goes v)
-      go false v = subst (Goes st q) (sym (pick-false _ _ v)) (fixed-goes v)
+          → Goes c st q (pick (isVariable block) (walkOf (st .mode) (st .phase) (wordsFrom st q line) room) (walkPlaces (st .mode) (st .phase) (placesIn (sizeOf block) (placesOf payload block - q / sizeOf block) (wordsFrom st q line)) room))
+      go true v = subst (Goes c st q) (sym (pick-true _ _ v)) (variable-goes v)
+      go false v = subst (Goes c st q) (sym (pick-false _ _ v)) (fixed-goes v)
 
   told-possible : (i : ℕ) (p : Phase) (met : Met) → misplaced (systemOf (st .system) .payload) (st .settings .block) (st .settings .flag) (At i) ≡ false
-      → (isBusy p && not (isVariable (st .settings .block))) ≡ false → misphased capacity p ≡ false → impossible (toldBy st i p met .state) ≡ false
+      → (isBusy p && not (isVariable (st .settings .block))) ≡ false → misphased c p ≡ false → impossibleIn c (toldBy st i p met .state) ≡ false
   told-possible i p Nothing x y z =
       let b = at-q st q line room at r in
-      possible-by _ (record { number = b .number; numbered = b .numbered; range = b .range; clean = b .clean; placed = refl; varied = y }) z
+      possible-by c _ (record { number = b .number; numbered = b .numbered; range = b .range; clean = b .clean; placed = refl; varied = y }) z
   told-possible i p (Whole k n) x y z =
       let b = at-q st q line room at r in
-      possible-by _ (record { number = b .number; numbered = b .numbered; range = b .range; clean = b .clean; placed = x; varied = y }) z
+      possible-by c _ (record { number = b .number; numbered = b .numbered; range = b .range; clean = b .clean; placed = x; varied = y }) z
   told-possible i p (Lost n) x y z =
       let b = at-q st q line room at r in
-      possible-by _ (record { number = b .number; numbered = b .numbered; range = b .range; clean = b .clean; placed = x; varied = y }) z
+      possible-by c _ (record { number = b .number; numbered = b .numbered; range = b .range; clean = b .clean; placed = x; varied = y }) z
 
-  on-possible : impossible (goesFrom st q (walkFrom st q line room) .told .state) ≡ false
+  on-possible : impossibleIn c (goesFrom st q (walkFrom st q line room) .told .state) ≡ false
   on-possible = let g = walk-goes in told-possible _ _ (walkFrom st q line room .answer .met) (g .placed) (g .varied) (g .phased)
 
 -- ---- a reading call
-from-place : (p : Place) (st : Reader) (line room : List ℕ) → st .place ≡ p → Ready st line room → impossible (readFrom p st line room .told .state) ≡ false
-from-place Shut st line room at r = start-possible st (st .mode) line (r .state)
+from-place : {c : ℕ} (p : Place) (st : Reader) (line room : List ℕ) → st .place ≡ p → ReadyIn c st line room → impossibleIn c (readFrom p st line room .told .state) ≡ false
+from-place {c} Shut st line room at r = start-possible c st (st .mode) line (r .state)
 from-place (At q) st line room at r = on-possible st q line room at r
 
-call-by : (b : Bool) (x y : Call) → (b ≡ true → impossible (x .told .state) ≡ false) → impossible (y .told .state) ≡ false → impossible (pick b x y .told .state) ≡ false
+call-by : (c : ℕ) (b : Bool) (x y : Call) → (b ≡ true → impossibleIn c (x .told .state) ≡ false) → impossibleIn c (y .told .state) ≡ false → impossibleIn c (pick b x y .told .state) ≡ false
 unfolding pick
-call-by true x y h k = h refl
-call-by false x y h k = k
+call-by c true x y h k = h refl
+call-by c false x y h k = k
 
-pub read-possible : (st : Reader) (line room : List ℕ) → impossible st ≡ false → impossible (reading st line room .told .state) ≡ false
-unfolding reading
-read-possible st line room e =
-    call-by (eqb (readFault st (length line) (length room)) 0) (readFrom (st .place) st line room) _
-    (λ h. from-place (st .place) st line room refl (ready st line room (eqb-true _ _ h))) e
+pub read-possible : (c : ℕ) (st : Reader) (line room : List ℕ) → impossibleIn c st ≡ false → impossibleIn c (readingIn c st line room .told .state) ≡ false
+unfolding readingIn
+read-possible c st line room e =
+    call-by c (eqb (readFaultIn c st (length line) (length room)) 0) (readFrom (st .place) st line room) _
+    (λ h. from-place (st .place) st line room refl (ready c st line room (eqb-true _ _ h))) e
 
 -- ---- any calls, from a fresh reader on
-pub fresh-possible : (system mode : ℕ) → impossible (fresh system mode) ≡ false
-unfolding impossible
-fresh-possible system mode = refl
+pub fresh-possible : (c : ℕ) (system mode : ℕ) → impossibleIn c (fresh system mode) ≡ false
+unfolding impossibleIn
+fresh-possible c system mode = refl
 
-pub data Reached (system mode : ℕ) : Reader → Type 0 where
-  is-fresh : Reached system mode (fresh system mode)
-  reads : {st : Reader} (line room : List ℕ) → Reached system mode st → Reached system mode (reading st line room .told .state)
+pub data Reached (c system mode : ℕ) : Reader → Type 0 where
+  is-fresh : Reached c system mode (fresh system mode)
+  reads : {st : Reader} (line room : List ℕ) → Reached c system mode st → Reached c system mode (readingIn c st line room .told .state)
 
-pub reached-possible : (system mode : ℕ) (st : Reader) → Reached system mode st → impossible st ≡ false
-reached-possible system mode st is-fresh = fresh-possible system mode
-reached-possible system mode _ (reads {st} line room r) = read-possible st line room (reached-possible system mode st r)
+pub reached-possible : (c : ℕ) (system mode : ℕ) (st : Reader) → Reached c system mode st → impossibleIn c st ≡ false
+reached-possible c system mode st is-fresh = fresh-possible c system mode
+reached-possible c system mode _ (reads {st} line room r) = read-possible c st line room (reached-possible c system mode st r)
 
 -- ---- answer 2 is of an impossible state alone
 -- the number of a refusal, and 0 of what is none
@@ -248,15 +248,15 @@ unfolding pick
 call-2 true x y h k e = h e
 call-2 false x y h k e = k e
 
-fault-2 : (st : Reader) (long room : ℕ) → impossible st ≡ false → readFault st long room ≡ 2 → ⊥
-unfolding readFault
-fault-2 st long room e = not-2 _ 1 _ (λ z. omega arith) (λ z. absurd (let k : 0 ≡ 2 = sym (pick-false 2 0 e) ∙ z in omega arith))
+fault-2 : (c : ℕ) (st : Reader) (long room : ℕ) → impossibleIn c st ≡ false → readFaultIn c st long room ≡ 2 → ⊥
+unfolding readFaultIn
+fault-2 c st long room e = not-2 _ 1 _ (λ z. omega arith) (λ z. absurd (let k : 0 ≡ 2 = sym (pick-false 2 0 e) ∙ z in omega arith))
 
-pub never-2 : (st : Reader) → impossible st ≡ false → (line room : List ℕ) (d : Bool) → reading st line room .told .event ≡ Refused 2 d → ⊥
-unfolding reading
-never-2 st p line room d e =
-    call-2 (eqb (readFault st (length line) (length room)) 0) (readFrom (st .place) st line room) _ (from-2 (st .place) st line room) (fault-2 st (length line) (length room) p)
+pub never-2 : (c : ℕ) (st : Reader) → impossibleIn c st ≡ false → (line room : List ℕ) (d : Bool) → readingIn c st line room .told .event ≡ Refused 2 d → ⊥
+unfolding readingIn
+never-2 c st p line room d e =
+    call-2 (eqb (readFaultIn c st (length line) (length room)) 0) (readFrom (st .place) st line room) _ (from-2 (st .place) st line room) (fault-2 c st (length line) (length room) p)
     (ap refusal e)
 
-pub fresh-never-2 : (system mode : ℕ) (st : Reader) → Reached system mode st → (line room : List ℕ) (d : Bool) → reading st line room .told .event ≡ Refused 2 d → ⊥
-fresh-never-2 system mode st r = never-2 st (reached-possible system mode st r)
+pub fresh-never-2 : (c : ℕ) (system mode : ℕ) (st : Reader) → Reached c system mode st → (line room : List ℕ) (d : Bool) → readingIn c st line room .told .event ≡ Refused 2 d → ⊥
+fresh-never-2 c system mode st r = never-2 c st (reached-possible c system mode st r)

@@ -6,7 +6,8 @@ use mathlib.Core.List.{List}
 use Rattle.reader.specs.declared.state.Reader.{Reader}
 use Rattle.reader.specs.declared.state.Event.{Event}
 use Rattle.reader.specs.declared.state.Event.the-variants.{Refused, Begun, Block, Drop, End}
-use Rattle.reader.specs.Reading.{reading}
+use Rattle.reader.specs.State.{capacity}
+use Rattle.reader.specs.Reading.{readingIn}
 
 -- the line's end or a refusal
 abbrev pub isLast : Event → Bool
@@ -24,9 +25,12 @@ isBegun (Block k n) = false
 isBegun (Drop n) = false
 isBegun End = false
 
--- one of n calls, each with the state and the room that the call before it left, is the line's last
+-- one of n calls, each with the state and the room that the call before it left, is the line's last; the capacity is c
+abbrev pub endsWithinIn : ℕ → ℕ → Reader → List ℕ → List ℕ → Bool
+endsWithinIn c zero st line room = false
+endsWithinIn c (suc n) st line room =
+    let x = readingIn c st line room in
+    isLast (x .told .event) || endsWithinIn c n (x .told .state) line (x .room)
+
 abbrev pub endsWithin : ℕ → Reader → List ℕ → List ℕ → Bool
-endsWithin zero st line room = false
-endsWithin (suc n) st line room =
-    let x = reading st line room in
-    isLast (x .told .event) || endsWithin n (x .told .state) line (x .room)
+endsWithin n st line room = endsWithinIn capacity n st line room

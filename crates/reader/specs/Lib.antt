@@ -1,8 +1,3 @@
-pub mod Phases
-pub mod Machine
-pub mod Walk
-pub mod Runs
-pub mod Places
 pub mod Jump
 pub mod State
 pub mod Events

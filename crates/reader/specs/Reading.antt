@@ -19,18 +19,18 @@ use Rattle.line.specs.Settings.{sameSettings}
 use Rattle.line.specs.Layout.{payloadAt}
 use Rattle.line.specs.Check.{fitsLength, checkedOf}
 use Rattle.course.specs.Course.{blocksEnd}
-use Rattle.reader.specs.declared.machine.Phase.{Phase}
-use Rattle.reader.specs.declared.machine.Phase.the-variants.{Idle}
-use Rattle.reader.specs.declared.machine.Met.{Met}
-use Rattle.reader.specs.declared.machine.Met.the-variants.{Nothing, Whole, Lost}
+use Rattle.machine.specs.declared.phase.Phase.{Phase}
+use Rattle.machine.specs.declared.phase.Phase.the-variants.{Idle}
+use Rattle.machine.specs.declared.step.Met.{Met}
+use Rattle.machine.specs.declared.step.Met.the-variants.{Nothing, Whole, Lost}
 use Rattle.reader.specs.declared.state.Reader.{Reader}
 use Rattle.reader.specs.declared.state.Event.the-variants.{Refused, Begun, Block, Drop, End}
 use Rattle.reader.specs.declared.state.Told.{Told}
-use Rattle.reader.specs.Phases.{isBusy}
-use Rattle.reader.specs.Walk.{Walk, walkOf}
-use Rattle.reader.specs.Places.{placesIn, walkPlaces}
+use Rattle.machine.specs.Phases.{isBusy}
+use Rattle.machine.specs.Walk.{Walk, walkOf}
+use Rattle.machine.specs.Places.{placesIn, walkPlaces}
 use Rattle.reader.specs.Jump.{jumpFrom, isZero}
-use Rattle.reader.specs.State.{capacity, impossible}
+use Rattle.reader.specs.State.{capacity, impossibleIn}
 
 -- what a call leaves: what it tells, and the room
 pub record Call : Type 0 where
@@ -89,16 +89,22 @@ abbrev pub goesFrom : Reader → ℕ → Walk → Call
 goesFrom st q x = call (toldBy st (q + x .answer .taken) (x .answer .phase) (x .answer .met)) (x .room)
 
 -- ---- the call
--- 1: unknown system or mode, line not L long, room not 16,384; 2: state not possible
-unfoldable pub readFault : Reader → ℕ → ℕ → ℕ
-readFault st long room = lowestOf (when 1 (not (fitsLength (st .system) (st .mode) long && eqb room capacity)) ∷ when 2 (impossible st) ∷ [])
+-- 1: unknown system or mode, line not L long, room not c; 2: state not possible. The capacity c is 16,384.
+unfoldable pub readFaultIn : ℕ → Reader → ℕ → ℕ → ℕ
+readFaultIn c st long room = lowestOf (when 1 (not (fitsLength (st .system) (st .mode) long && eqb room c)) ∷ when 2 (impossibleIn c st) ∷ [])
+
+abbrev pub readFault : Reader → ℕ → ℕ → ℕ
+readFault st long room = readFaultIn capacity st long room
 
 abbrev pub readFrom : Place → Reader → List ℕ → List ℕ → Call
 readFrom Shut st line room = call (starts st (checkedOf (st .system) (st .mode) line)) room
 readFrom (At q) st line room = goesFrom st q (walkFrom st q line room)
 
 -- 1 and 2 leave everything
-unfoldable pub reading : Reader → List ℕ → List ℕ → Call
-reading st line room =
-    let fault = readFault st (length line) (length room) in
+unfoldable pub readingIn : ℕ → Reader → List ℕ → List ℕ → Call
+readingIn c st line room =
+    let fault = readFaultIn c st (length line) (length room) in
     pick (eqb fault 0) (readFrom (st .place) st line room) (call (record { event = Refused fault false; state = st }) room)
+
+abbrev pub reading : Reader → List ℕ → List ℕ → Call
+reading st line room = readingIn capacity st line room

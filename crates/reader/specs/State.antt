@@ -6,11 +6,11 @@ use Rattle.course.specs.declared.Last.the-variants.{Unknown}
 use Rattle.course.specs.declared.Place.the-variants.{Shut}
 use Rattle.line.specs.Settings.{noSettings}
 use Rattle.course.specs.Course.{impossibleAfter}
-use Rattle.reader.specs.declared.machine.Phase.the-variants.{Idle}
+use Rattle.machine.specs.declared.phase.Phase.the-variants.{Idle}
 use Rattle.reader.specs.declared.state.Reader.{Reader}
-use Rattle.reader.specs.Phases.{isBusy, misphased}
+use Rattle.machine.specs.Phases.{isBusy, misphased}
 
--- the words of the room
+-- the words of the room of a reading call
 abbrev pub capacity : ℕ
 capacity = 16384
 
@@ -18,6 +18,9 @@ capacity = 16384
 abbrev pub fresh : ℕ → ℕ → Reader
 fresh system mode = record { system = system; mode = mode; last = Unknown; settings = noSettings; place = Shut; phase = Idle }
 
--- the impossible rule, of lines and of the phase
-unfoldable pub impossible : Reader → Bool
-impossible st = impossibleAfter (st .system) (st .last) (st .settings) (st .place) (isBusy (st .phase)) || misphased capacity (st .phase)
+-- the impossible rule, of lines and of the phase; c is the capacity, the words of the room
+unfoldable pub impossibleIn : ℕ → Reader → Bool
+impossibleIn c st = impossibleAfter (st .system) (st .last) (st .settings) (st .place) (isBusy (st .phase)) || misphased c (st .phase)
+
+abbrev pub impossible : Reader → Bool
+impossible st = impossibleIn capacity st

@@ -1,8 +1,7 @@
 // The call that begins a line: it checks the line and reads no word of its area.
 use crate::jump;
 use crate::jump::Jump;
-use crate::machine;
-use crate::machine::Phase;
+use crate::state;
 use crate::state::Event;
 use crate::state::Reader;
 use crate::state::Told;
@@ -13,32 +12,27 @@ use line::check::Checked;
 use line::settings;
 use line::settings::Settings;
 use line::systems;
+use machine::phase;
+use machine::phase::Phase;
 ghost use mathlib.Core.Path.{_≡_};
 ghost use Rattle.lists.specs.Tests.{pick};
 ghost use Rattle.line.specs.Systems.{systemOf};
 ghost use Rattle.line.specs.Check.{checkedOf};
-ghost use Rattle.reader.specs.declared.machine.Phase.the-variants.{Idle};
+ghost use Rattle.machine.specs.declared.phase.Phase.the-variants.{Idle};
 ghost use Rattle.reader.specs.Jump.{jumpFrom};
 ghost use Rattle.reader.specs.Reading.{refused, goesOn, begun, starts};
 
 // A line with a fault: an open block is dropped, and the last number is forgotten.
-fn refuse(st: Reader, fault: u8) -> Told
+pub fn refuse(st: Reader, fault: u8) -> Told
     ensures { λ r. ⌜ r ≡ refused st fault ⌝ }
 {
     let phase = st.phase;
     let settings = st.settings;
     let event = Event::Refused {
         answer: fault,
-        dropped: machine::is_busy(phase),
+        dropped: phase::is_busy(phase),
     };
-    let state = Reader {
-        system: st.system,
-        mode: st.mode,
-        last: Last::Unknown,
-        settings: settings,
-        place: Place::Shut,
-        phase: Phase::Idle,
-    };
+    let state = state::becomes(st, Last::Unknown, settings, Place::Shut, Phase::Idle);
     Told {
         event: event,
         state: state,
@@ -71,7 +65,7 @@ fn phase_at_start(goes: bool, phase: Phase) -> Phase
 }
 
 // A line without fault.
-fn begin_line(st: Reader, n: u16, t: Settings) -> Told
+pub fn begin_line(st: Reader, n: u16, t: Settings) -> Told
     ensures { λ r. ⌜ r ≡ begun st n t ⌝ }
 {
     let phase = st.phase;
@@ -80,17 +74,10 @@ fn begin_line(st: Reader, n: u16, t: Settings) -> Told
     let event = Event::Begun {
         number: n,
         jump: jump,
-        dropped: machine::is_busy(phase) & !goes,
+        dropped: phase::is_busy(phase) & !goes,
     };
     let next = phase_at_start(goes, phase);
-    let state = Reader {
-        system: st.system,
-        mode: st.mode,
-        last: Last::Number(n),
-        settings: t,
-        place: Place::At(0),
-        phase: next,
-    };
+    let state = state::becomes(st, Last::Number(n), t, Place::At(0), next);
     Told {
         event: event,
         state: state,
@@ -98,7 +85,7 @@ fn begin_line(st: Reader, n: u16, t: Settings) -> Told
 }
 
 // The line check decides.
-pub(crate) fn start(st: Reader, line: &[u16]) -> Told
+pub fn start(st: Reader, line: &[u16]) -> Told
     ensures { λ r. ⌜ r ≡ starts st (checkedOf (st .system) (st .mode) (now (line .entry))) ⌝ }
 {
     let c = check::check(st.system, st.mode, line);

@@ -1,19 +1,20 @@
 // The reading call. With no line begun it begins one or refuses it; later it goes on from the place in the line to a block, a
 // drop or the line's end. Words of a begun line are not checked again.
 use crate::begin;
-use crate::machine;
-use crate::machine::Met;
-use crate::machine::Phase;
-use crate::places;
+use crate::state;
 use crate::state::Event;
 use crate::state::Reader;
 use crate::state::Told;
-use crate::walk;
-use crate::walk::Walked;
 use course::Place;
 use line::check;
 use line::fixed;
 use line::systems;
+use machine::phase;
+use machine::phase::Phase;
+use machine::places;
+use machine::step::Met;
+use machine::walk;
+use machine::walk::Walked;
 ghost use mathlib.Core.Path.{_≡_};
 ghost use mathlib.Core.Bool.{false};
 ghost use Prim.Native.Nat.{_+_, _≤_};
@@ -22,8 +23,8 @@ ghost use Rattle.line.specs.Systems.{systemOf};
 ghost use Rattle.line.specs.Fixed.{sizeOf};
 ghost use Rattle.course.specs.Course.{blocksEnd};
 ghost use Rattle.course.specs.declared.Place.the-variants.{At};
-ghost use Rattle.reader.specs.Walk.{leaves};
-ghost use Rattle.reader.specs.Reading.{call, becomes, walkFrom, toldBy, goesFrom, readFault, reading};
+ghost use Rattle.machine.specs.Walk.{leaves};
+ghost use Rattle.reader.specs.Reading.{call, walkFrom, toldBy, goesFrom, readFaultIn, readingIn, reading};
 
 // What a call asks before it reads: the lower of 1 and 2 that holds, or 0; and then where blocks end in the line, and the size of a fixed
 // block.
@@ -45,8 +46,8 @@ fn barred(fault: u8) -> Asked
 }
 
 // Each test leaves, and the table of fixed blocks is looked up once, because a call of a fixed line moves few words.
-fn ask(st: Reader, long: usize, room: usize) -> Asked
-    ensures { λ r. ⌜ (r .fault ≡ readFault st long room)
+fn ask(capacity: usize, st: Reader, long: usize, room: usize) -> Asked
+    ensures { λ r. ⌜ (r .fault ≡ readFaultIn capacity st long room)
         × (r .fault ≡ 0 → (r .end ≡ blocksEnd (systemOf (st .system) .payload) (st .settings .block) (st .settings .flag))
         × (r .size ≡ sizeOf (st .settings .block))) ⌝ }
 {
@@ -54,14 +55,14 @@ fn ask(st: Reader, long: usize, room: usize) -> Asked
     let settings = st.settings;
     let place = st.place;
     let phase = st.phase;
-    if !(check::is_fit(st.system, st.mode, long) & (room == 16384)) {
+    if !(check::is_fit(st.system, st.mode, long) & (room == capacity)) {
         return barred(1);
     }
-    let x = course::look(st.system, last, settings, place, machine::is_busy(phase));
+    let x = course::look(st.system, last, settings, place, phase::is_busy(phase));
     if x.impossible {
         return barred(2);
     }
-    if machine::is_misphased(16384, phase) {
+    if phase::is_misphased(capacity, phase) {
         return barred(2);
     }
     Asked {
@@ -73,7 +74,7 @@ fn ask(st: Reader, long: usize, room: usize) -> Asked
 
 // The walk from place q to the end of the words in which blocks stand.
 fn walk_from(st: Reader, end: usize, size: u16, q: usize, line: &[u16], room: &mut [u16]) -> Walked
-    requires { ⌜ (st .place ≡ At q) × (readFault st (length (now line)) (length (now room)) ≡ 0)
+    requires { ⌜ (st .place ≡ At q) × (readFaultIn (length (now room)) st (length (now line)) (length (now room)) ≡ 0) × (1920 ≤ length (now room))
         × (end ≡ blocksEnd (systemOf (st .system) .payload) (st .settings .block) (st .settings .flag)) × (size ≡ sizeOf (st .settings .block)) ⌝ }
     ensures { λ r. ⌜ leaves r (now (room .exit)) ≡ walkFrom st q (now (line .entry)) (now (room .entry)) ⌝ }
 {
@@ -86,51 +87,37 @@ fn walk_from(st: Reader, end: usize, size: u16, q: usize, line: &[u16], room: &m
     if fixed::is_variable(settings.block) {
         return walk::walk(st.mode, phase, &line[i..e], room);
     }
-    places::walk_places(st.mode, phase, size as usize, &line[i..e], room)
-}
-
-// The state with another place and phase.
-fn moved(st: Reader, place: Place, phase: Phase) -> Reader
-    ensures { λ r. ⌜ r ≡ becomes st (st .last) (st .settings) place phase ⌝ }
-{
-    let last = st.last;
-    let settings = st.settings;
-    Reader {
-        system: st.system,
-        mode: st.mode,
-        last: last,
-        settings: settings,
-        place: place,
-        phase: phase,
-    }
+    places::walk_fixed(st.mode, phase, size as usize, &line[i..e], room)
 }
 
 // What the call tells of what was met, the place being q afterwards.
 fn tell(st: Reader, q: usize, phase: Phase, met: Met) -> Told
     ensures { λ r. ⌜ r ≡ toldBy st q phase met ⌝ }
 {
+    let last = st.last;
+    let t = st.settings;
     match met {
         Met::Nothing => Told {
             event: Event::End,
-            state: moved(st, Place::Shut, phase),
+            state: state::becomes(st, last, t, Place::Shut, phase),
         },
         Met::Whole { kind, length } => Told {
             event: Event::Block {
                 kind: kind,
                 length: length,
             },
-            state: moved(st, Place::At(q), phase),
+            state: state::becomes(st, last, t, Place::At(q), phase),
         },
         Met::Lost { reason } => Told {
             event: Event::Drop { reason: reason },
-            state: moved(st, Place::At(q), phase),
+            state: state::becomes(st, last, t, Place::At(q), phase),
         },
     }
 }
 
 // Goes on from place q.
 fn read_on(st: Reader, end: usize, size: u16, q: usize, line: &[u16], room: &mut [u16]) -> Told
-    requires { ⌜ (st .place ≡ At q) × (readFault st (length (now line)) (length (now room)) ≡ 0)
+    requires { ⌜ (st .place ≡ At q) × (readFaultIn (length (now room)) st (length (now line)) (length (now room)) ≡ 0) × (1920 ≤ length (now room))
         × (end ≡ blocksEnd (systemOf (st .system) .payload) (st .settings .block) (st .settings .flag)) × (size ≡ sizeOf (st .settings .block)) ⌝ }
     ensures { λ r. ⌜ call r (now (room .exit)) ≡ goesFrom st q (walkFrom st q (now (line .entry)) (now (room .entry))) ⌝ }
 {
@@ -140,11 +127,12 @@ fn read_on(st: Reader, end: usize, size: u16, q: usize, line: &[u16], room: &mut
     tell(st, q + x.taken, phase, met)
 }
 
-// A reading call.
-pub fn read(st: Reader, line: &[u16], room: &mut [u16]) -> Told
-    ensures { λ r. ⌜ call r (now (room .exit)) ≡ reading st (now (line .entry)) (now (room .entry)) ⌝ }
+// A reading call of that capacity, in which every fixed block has room.
+fn read_in(capacity: usize, st: Reader, line: &[u16], room: &mut [u16]) -> Told
+    requires { ⌜ 1920 ≤ capacity ⌝ }
+    ensures { λ r. ⌜ call r (now (room .exit)) ≡ readingIn capacity st (now (line .entry)) (now (room .entry)) ⌝ }
 {
-    let x = ask(st, line.len(), room.len());
+    let x = ask(capacity, st, line.len(), room.len());
     if x.fault != 0 {
         return Told {
             event: Event::Refused {
@@ -159,4 +147,11 @@ pub fn read(st: Reader, line: &[u16], room: &mut [u16]) -> Told
         Place::Shut => begin::start(st, line),
         Place::At(q) => read_on(st, x.end, x.size, q, line, room),
     }
+}
+
+// A reading call.
+pub fn read(st: Reader, line: &[u16], room: &mut [u16]) -> Told
+    ensures { λ r. ⌜ call r (now (room .exit)) ≡ reading st (now (line .entry)) (now (room .entry)) ⌝ }
+{
+    read_in(state::CAPACITY, st, line, room)
 }

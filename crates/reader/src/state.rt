@@ -1,13 +1,17 @@
 // The reader's state and what its calls tell; which states are impossible.
 use crate::jump::Jump;
-use crate::machine;
-use crate::machine::Phase;
 use course::Last;
 use course::Place;
 use line::settings;
 use line::settings::Settings;
+use machine::phase;
+use machine::phase::Phase;
 ghost use mathlib.Core.Path.{_≡_};
 ghost use Rattle.reader.specs.State.{fresh, impossible};
+ghost use Rattle.reader.specs.Reading.{becomes};
+
+// The words of the room.
+pub const CAPACITY: usize = 16384;
 
 pub struct Reader {
     pub system: u8,
@@ -60,6 +64,20 @@ pub fn fresh_reader(system: u8, mode: u8) -> Reader
     }
 }
 
+// The same system and mode, and all else anew.
+pub(crate) fn becomes(st: Reader, last: Last, t: Settings, place: Place, phase: Phase) -> Reader
+    ensures { λ r. ⌜ r ≡ becomes st last t place phase ⌝ }
+{
+    Reader {
+        system: st.system,
+        mode: st.mode,
+        last: last,
+        settings: t,
+        place: place,
+        phase: phase,
+    }
+}
+
 // No reader can have come into this state.
 pub fn is_impossible(st: Reader) -> bool
     ensures { λ r. ⌜ r ≡ impossible st ⌝ }
@@ -68,6 +86,6 @@ pub fn is_impossible(st: Reader) -> bool
     let settings = st.settings;
     let place = st.place;
     let phase = st.phase;
-    let lines = course::is_impossible(st.system, last, settings, place, machine::is_busy(phase));
-    lines | machine::is_misphased(16384, phase)
+    let lines = course::is_impossible(st.system, last, settings, place, phase::is_busy(phase));
+    lines | phase::is_misphased(CAPACITY, phase)
 }

@@ -16,11 +16,14 @@ is-busy-requires c κs = search needs
 phase-at-start-requires : tie.Need-phase-at-start-requires
 phase-at-start-requires c κs = search needs
 
+becomes-requires : tie.Need-becomes-requires
+becomes-requires c κs = search needs
+
 returns : tie.Need-returns
 unfolding begun
-returns c = simp (c .phase-at-start .ensures, c .before .is-busy .ensures, c .before .before .jump-to .ensures, c .before .before .before .goes-on .ensures)
+returns c = simp (c .becomes .ensures, c .before .phase-at-start .ensures, c .before .before .is-busy .ensures, c .before .before .before .jump-to .ensures, c .before .before .before .before .goes-on .ensures)
 
 pub begin-line-spec : {M : Type 1} → statement M
 begin-line-spec =
     tie.close
-    (tie.spec goes-on-requires jump-to-requires is-busy-requires phase-at-start-requires returns)
+    (tie.spec goes-on-requires jump-to-requires is-busy-requires phase-at-start-requires becomes-requires returns)

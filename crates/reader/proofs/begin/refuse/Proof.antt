@@ -6,8 +6,11 @@ use Rattle.reader.proofs.begin.refuse.Tie as tie
 is-busy-requires : tie.Need-is-busy-requires
 is-busy-requires c κs = search needs
 
+becomes-requires : tie.Need-becomes-requires
+becomes-requires c κs = search needs
+
 returns : tie.Need-returns
-returns c = simp (c .is-busy .ensures)
+returns c = simp (c .becomes .ensures, c .before .is-busy .ensures)
 
 pub refuse-spec : {M : Type 1} → statement M
-refuse-spec = tie.close (tie.spec is-busy-requires returns)
+refuse-spec = tie.close (tie.spec is-busy-requires becomes-requires returns)

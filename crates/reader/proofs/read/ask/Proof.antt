@@ -7,8 +7,8 @@ use borrow.Author.Tests.{not-true, not-false}
 use Rattle.lists.proofs.Tests.{or-left, or-right, false-or}
 use Rattle.line.specs.Check.{fitsLength}
 use Rattle.course.specs.Course.{impossibleAfter}
-use Rattle.reader.specs.Phases.{isBusy, misphased}
-use Rattle.reader.specs.State.{capacity, impossible}
+use Rattle.machine.specs.Phases.{isBusy, misphased}
+use Rattle.reader.specs.State.{impossibleIn}
 use Rattle.reader.proofs.ReadLaws.{fault-1, fault-2, fault-0}
 use borrow.Author.Needs.{needs}
 use Rattle.reader.proofs.read.ask.Statement.{statement}
@@ -18,12 +18,12 @@ use Rattle.reader.proofs.read.ask.Tie as tie
 -- 1: the words and the room
 asked : (x : tie.After-is-fit) (b : Bool) →
     let g = x .before .before .args in
-    (x .is-fit .result && eqb (g .room) 16384) ≡ b → (fitsLength (g .st .system) (g .st .mode) (g .long) && eqb (g .room) capacity) ≡ b
-asked x b e = ap (λ (f : Bool). f && eqb (x .before .before .args .room) capacity) (sym (x .is-fit .ensures)) ∙ e
+    (x .is-fit .result && eqb (g .room) (g .capacity)) ≡ b → (fitsLength (g .st .system) (g .st .mode) (g .long) && eqb (g .room) (g .capacity)) ≡ b
+asked x b e = ap (λ (f : Bool). f && eqb (x .before .before .args .room) (x .before .before .args .capacity)) (sym (x .is-fit .ensures)) ∙ e
 
 fit : (x : tie.Else1) →
     let g = x .before .before .before .args in
-    (fitsLength (g .st .system) (g .st .mode) (g .long) && eqb (g .room) capacity) ≡ true
+    (fitsLength (g .st .system) (g .st .mode) (g .long) && eqb (g .room) (g .capacity)) ≡ true
 fit x = asked (x .before) true (not-false _ (x .if1 .left))
 
 -- 2: the course of lines
@@ -44,7 +44,7 @@ returns : tie.Need-returns
 returns c =
     let x = c .before .before in
     let e = c .barred .ensures in
-    (e ∙ fault-1 (x .before .before .args .st) _ _ (asked x false (not-true _ (c .before .if1 .taken))), λ z. absurd (omega (arith, e, z)))
+    (e ∙ fault-1 (x .before .before .args .capacity) (x .before .before .args .st) _ _ (asked x false (not-true _ (c .before .if1 .taken))), λ z. absurd (omega (arith, e, z)))
 
 is-busy-requires : tie.Need-is-busy-requires
 is-busy-requires c κs = search needs
@@ -56,12 +56,12 @@ barred-requires-2 : tie.Need-barred-requires-2
 barred-requires-2 c κs = search needs
 
 returns-2 : tie.Need-returns-2
-unfolding impossible
+unfolding impossibleIn
 returns-2 c =
     let x = c .before .before in
     let e = c .barred2 .ensures in
     let bad = or-left _ _ (sym (course x) ∙ c .before .if2 .taken) in
-    (e ∙ fault-2 (x .before .before .before .before .before .args .st) _ _ (fit (x .before .before)) bad, λ z. absurd (omega (arith, e, z)))
+    (e ∙ fault-2 _ (x .before .before .before .before .before .args .st) _ _ (fit (x .before .before)) bad, λ z. absurd (omega (arith, e, z)))
 
 is-misphased-requires : tie.Need-is-misphased-requires
 is-misphased-requires c κs = search needs
@@ -70,23 +70,24 @@ barred-requires-3 : tie.Need-barred-requires-3
 barred-requires-3 c κs = search needs
 
 returns-3 : tie.Need-returns-3
-unfolding impossible
+unfolding impossibleIn
 returns-3 c =
     let m = c .before .before in
     let x = m .before .before in
-    let st = x .before .before .before .before .before .args .st in
+    let g = x .before .before .before .before .before .args in
+    let st = g .st in
     let e = c .barred3 .ensures in
-    let bad = or-right (impossibleAfter (st .system) (st .last) (st .settings) (st .place) (isBusy (st .phase))) (misphased capacity (st .phase)) (sym (m .is-misphased .ensures) ∙ c .before .if3 .taken) in
-    (e ∙ fault-2 st _ _ (fit (x .before .before)) bad, λ z. absurd (omega (arith, e, z)))
+    let bad = or-right (impossibleAfter (st .system) (st .last) (st .settings) (st .place) (isBusy (st .phase))) (misphased (g .capacity) (st .phase)) (sym (m .is-misphased .ensures) ∙ c .before .if3 .taken) in
+    (e ∙ fault-2 _ st _ _ (fit (x .before .before)) bad, λ z. absurd (omega (arith, e, z)))
 
 returns-4 : tie.Need-returns-4
-unfolding impossible
+unfolding impossibleIn
 returns-4 c =
     let m = c .before in
     let x = m .before .before in
     let st = x .before .before .before .before .before .args .st in
     let good = false-or (sym (course x) ∙ m .before .if2 .left) (sym (m .is-misphased .ensures) ∙ c .if3 .left) in
-    (fault-0 st _ _ (fit (x .before .before)) good, λ z. (x .look .ensures .1, x .look .ensures .2))
+    (fault-0 _ st _ _ (fit (x .before .before)) good, λ z. (x .look .ensures .1, x .look .ensures .2))
 
 pub ask-spec : {M : Type 1} → statement M
 ask-spec =

@@ -2,9 +2,10 @@
 use mathlib.Core.Path.{refl, ap, _∙_}
 use Prim.Native.Nat.{_+_, _≤_}
 use native.Mathlib.Omega.{arith}
+use lib.ListN.{length}
 use Rattle.line.specs.Systems.{systemOf}
 use Rattle.reader.specs.declared.state.Told.{Told}
-use Rattle.reader.specs.Walk.{Walk}
+use Rattle.machine.specs.Walk.{Walk}
 use Rattle.reader.specs.Reading.{call, goesFrom}
 use Rattle.reader.proofs.Ready.{ready}
 use Rattle.reader.proofs.ReadLaws.{next-small}
@@ -17,7 +18,7 @@ small : (x : tie.After-walk-from) → x .before .before .before .before .args .q
 small x =
     let s = x .before .before .before .before in
     let g = s .args in
-    let n = next-small (g .st) (g .q) (g .line .now) (g .room .now) (s .pre .0) (ready (g .st) (g .line .now) (g .room .now) (s .pre .1)) (systemOf (g .st .system)) refl in
+    let n = next-small (g .st) (g .q) (g .line .now) (g .room .now) (s .pre .0) (ready (length (g .room .now)) (g .st) (g .line .now) (g .room .now) (s .pre .1)) (systemOf (g .st .system)) refl in
     omega (arith, n, ap (λ (y : Walk). y .answer .taken) (x .walk-from .ensures))
 
 walk-from-requires : tie.Need-walk-from-requires

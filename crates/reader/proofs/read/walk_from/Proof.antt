@@ -10,18 +10,19 @@ use Rattle.line.specs.declared.systems.System.{System}
 use Rattle.line.specs.Systems.{systemOf}
 use Rattle.line.specs.Fixed.{isVariable, placesOf}
 use Rattle.course.specs.Course.{blocksEnd}
-use Rattle.reader.specs.Walk.{walkOf}
-use Rattle.reader.specs.Places.{placesIn, walkPlaces}
+use Rattle.machine.specs.Walk.{walkOf}
+use Rattle.machine.specs.Places.{placesIn, walkPlaces, walkFixed}
+use Rattle.machine.proofs.PlaceLaws.{fixed-walk}
 use Rattle.reader.specs.Reading.{walkFrom, wordsFrom}
-use Rattle.reader.proofs.Ready.{Ready, ready}
-use Rattle.reader.proofs.ReadLaws.{payload-in, Span, span, Grid, grid}
+use Rattle.reader.proofs.Ready.{ReadyIn, ready}
+use Rattle.reader.proofs.ReadLaws.{payload-in, Span, span, Grid, grid, block-fits}
 use borrow.Author.Needs.{needs}
 use Rattle.reader.proofs.read.walk_from.Statement.{statement}
 use Rattle.reader.proofs.read.walk_from.Tie as tie
 
 -- neither 1 nor 2
-is-ready : (x : tie.After-system-of) → let g = x .before .before .before .args in Ready (g .st) (g .line .now) (g .room .now)
-is-ready x = let g = x .before .before .before .args in ready (g .st) (g .line .now) (g .room .now) (x .before .before .before .pre .1)
+is-ready : (x : tie.After-system-of) → let g = x .before .before .before .args in ReadyIn (length (g .room .now)) (g .st) (g .line .now) (g .room .now)
+is-ready x = let g = x .before .before .before .args in ready (length (g .room .now)) (g .st) (g .line .now) (g .room .now) (x .before .before .before .pre .1)
 
 -- the part that is lent
 spanned : (x : tie.After-system-of) →
@@ -31,7 +32,7 @@ spanned : (x : tie.After-system-of) →
 spanned x =
     let g = x .before .before .before .args in
     let same = ap (λ (s : System). blocksEnd (s .payload) (g .st .settings .block) (g .st .settings .flag)) (x .system-of .ensures) in
-    span _ _ _ _ _ (is-ready x) (x .system-of .result) (x .system-of .ensures) (g .end) (x .before .before .before .pre .2 ∙ sym same)
+    span _ _ _ _ _ (is-ready x) (x .system-of .result) (x .system-of .ensures) (g .end) (x .before .before .before .pre .3 ∙ sym same)
 
 -- a fixed line's places
 fixed-line : (b : tie.Else1) →
@@ -45,7 +46,7 @@ gridded : (n : tie.Else1) →
     Grid (g .st) (g .q) (g .line .now) (g .room .now) (x .before .before .before .pre .0) (is-ready x) (x .system-of .result) (x .system-of .ensures) (g .size)
 gridded n =
     let x = n .before .before .before .before in
-    grid _ _ _ _ _ (is-ready x) (x .system-of .result) (x .system-of .ensures) (fixed-line n) _ (x .before .before .before .pre .3)
+    grid _ _ _ _ _ (is-ready x) (x .system-of .result) (x .system-of .ensures) (fixed-line n) _ (x .before .before .before .pre .4)
 
 system-of-requires : tie.Need-system-of-requires
 system-of-requires c κs = search needs
@@ -90,20 +91,20 @@ returns c =
     ∙ ap (λ (ws : List ℕ). walkOf (g .st .mode) (g .st .phase) ws (g .room .now)) (spanned x .words)
     ∙ sym (pick-true _ _ (sym (v .is-variable .ensures) ∙ c .before .before .before .before .before .if1 .taken))
 
-mul-walk-places : tie.Need-mul-walk-places
-mul-walk-places c = let z = spanned (c .before .before .before .before) in omega (arith, z .ends, z .small, z .inside)
+mul-walk-fixed : tie.Need-mul-walk-fixed
+mul-walk-fixed c = let z = spanned (c .before .before .before .before) in omega (arith, z .ends, z .small, z .inside)
 
-sub-walk-places : tie.Need-sub-walk-places
-sub-walk-places c = let z = spanned (c .before .before .before .before) in omega (arith, z .inside)
+sub-walk-fixed : tie.Need-sub-walk-fixed
+sub-walk-fixed c = let z = spanned (c .before .before .before .before) in omega (arith, z .inside)
 
-part-walk-places-start : tie.Need-part-walk-places-start
-part-walk-places-start c = let z = spanned (c .before .before .before .before) in omega (arith, z .inside)
+part-walk-fixed-start : tie.Need-part-walk-fixed-start
+part-walk-fixed-start c = let z = spanned (c .before .before .before .before) in omega (arith, z .inside)
 
-part-walk-places-end : tie.Need-part-walk-places-end
-part-walk-places-end c = spanned (c .before .before .before .before) .ends
+part-walk-fixed-end : tie.Need-part-walk-fixed-end
+part-walk-fixed-end c = spanned (c .before .before .before .before) .ends
 
-walk-places-requires : tie.Need-walk-places-requires
-walk-places-requires c κs = let z = gridded (c .before .before) in (z .one, z .small)
+walk-fixed-requires : tie.Need-walk-fixed-requires
+walk-fixed-requires c κs = search needs
 
 same-length-2 : tie.Need-same-length-2
 same-length-2 c = search needs
@@ -117,10 +118,13 @@ returns-2 c =
     let ws = wordsFrom (g .st) (g .q) (g .line .now) in
     let p = placesOf (systemOf (g .st .system) .payload) (g .st .settings .block) in
     let k : ℕ → ℕ → List ℕ → _ = λ size places ws. walkPlaces (g .st .mode) (g .st .phase) (placesIn size places ws) (g .room .now) in
-    c .before .before .walk-places .ensures
-    ∙ ap (λ (ws : List ℕ). k (g .size) (length ws / g .size) ws) (spanned x .words)
-    ∙ ap (λ (places : ℕ). k (g .size) places ws) (gridded n .count)
-    ∙ ap (λ (size : ℕ). k size (p - g .q / size) ws) (x .before .before .before .pre .3)
+    let grid = gridded n in
+    let fits = block-fits _ _ _ _ (x .before .before .before .pre .0) (is-ready x) (x .system-of .result) (x .system-of .ensures) (x .before .before .before .pre .2) (fixed-line n) in
+    c .before .before .walk-fixed .ensures
+    ∙ ap (λ (ws : List ℕ). walkFixed (g .st .mode) (g .st .phase) (g .size) ws (g .room .now)) (spanned x .words)
+    ∙ fixed-walk (g .st .mode) (g .st .phase) (g .size) ws (g .room .now) (grid .one) (omega (arith, fits, x .before .before .before .pre .4))
+    ∙ ap (λ (places : ℕ). k (g .size) places ws) (grid .count)
+    ∙ ap (λ (size : ℕ). k size (p - g .q / size) ws) (x .before .before .before .pre .4)
     ∙ sym (pick-false _ _ (fixed-line n))
 
 pub walk-from-spec : {M : Type 1} → statement M
@@ -139,10 +143,10 @@ walk-from-spec =
     walk-requires
     same-length
     returns
-    mul-walk-places
-    sub-walk-places
-    part-walk-places-start
-    part-walk-places-end
-    walk-places-requires
+    mul-walk-fixed
+    sub-walk-fixed
+    part-walk-fixed-start
+    part-walk-fixed-end
+    walk-fixed-requires
     same-length-2
     returns-2)

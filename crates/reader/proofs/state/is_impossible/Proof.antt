@@ -1,5 +1,5 @@
 -- `reader::state::is_impossible` meets its contract. Assumes nothing.
-use Rattle.reader.specs.State.{impossible}
+use Rattle.reader.specs.State.{impossibleIn}
 use borrow.Author.Needs.{needs}
 use Rattle.reader.proofs.state.is_impossible.Statement.{statement}
 use Rattle.reader.proofs.state.is_impossible.Tie as tie
@@ -14,7 +14,7 @@ is-misphased-requires : tie.Need-is-misphased-requires
 is-misphased-requires c κs = search needs
 
 returns : tie.Need-returns
-unfolding impossible
+unfolding impossibleIn
 returns c = simp (c .before .is-impossible .ensures, c .before .before .is-busy .ensures, c .is-misphased .ensures)
 
 pub is-impossible-spec : {M : Type 1} → statement M

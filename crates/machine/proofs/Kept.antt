@@ -1,0 +1,220 @@
+-- What a word, a walk and a walk over places keep: a possible phase, the room's length; and how many words they take.
+-- Assumes nothing.
+use mathlib.Core.Path.{_≡_, refl, sym, ap, _∙_, subst}
+use mathlib.Core.Bool.{Bool, true, false, _&&_, not}
+use mathlib.Core.List.{List, [], _∷_, map}
+use Prim.Native.Nat.{ℕ, zero, suc, _+_, _-_, _*_, _≤_, _<_}
+use native.Mathlib.Nat.{zero-mul, one-mul, suc-mul, mul-le-mul-right}
+use native.Mathlib.Omega.{arith}
+use lib.Dec.{T, eqb, leb, ltb}
+use lib.ListN.{length, getD, take, drop, length-append, length-drop, length-map, length-set}
+use lib.Seq.{length-take-le}
+use borrow.Author.Tests.{le-ltb, leb-false, ltb-false}
+use Rattle.lists.specs.Tests.{pick}
+use Rattle.lists.proofs.Tests.{or-false, false-or}
+use Rattle.words.specs.Modes.{valueOf}
+use Rattle.words.specs.Class.{classOf}
+use Rattle.words.specs.declared.class.Class.{Class}
+use Rattle.words.specs.declared.class.Class.the-variants.{Byte, Other, Separator, Ending, Illegal}
+use Rattle.machine.specs.declared.phase.Phase.{Phase}
+use Rattle.machine.specs.declared.phase.Phase.the-variants.{Idle, Kind, First, Second, Third, Fourth, Data}
+use Rattle.machine.specs.declared.step.Met.{Met}
+use Rattle.machine.specs.declared.step.Met.the-variants.{Nothing, Whole, Lost}
+use Rattle.machine.specs.declared.step.Step.{Step}
+use Rattle.machine.specs.Phases.{misphased}
+use Rattle.machine.specs.Machine.{on, dropped, idleStep, kindStep, countStep, counted, endStep, valueStep, stepBy, stepOf}
+use Rattle.machine.specs.Walk.{Walk, after, past, unless, isNothing, collectedOf, stored, walkOf}
+use Rattle.machine.specs.Places.{placesIn, metAt, placeRoom, walkPlaces}
+
+-- ---- one word
+idle-kept : (room : ℕ) (c : Class) → misphased room (idleStep c .phase) ≡ false
+idle-kept room Byte = refl
+idle-kept room Other = refl
+idle-kept room Separator = refl
+idle-kept room Ending = refl
+idle-kept room Illegal = refl
+
+kind-kept : (room : ℕ) (c : Class) (b : ℕ) → misphased room (kindStep c b .phase) ≡ false
+kind-kept room Byte b = refl
+kind-kept room Other b = refl
+kind-kept room Separator b = refl
+kind-kept room Ending b = refl
+kind-kept room Illegal b = refl
+
+count-kept : (room : ℕ) (c : Class) (next : Step) → misphased room (next .phase) ≡ false → misphased room (countStep c next .phase) ≡ false
+count-kept room Byte next e = e
+count-kept room Other next e = refl
+count-kept room Separator next e = refl
+count-kept room Ending next e = refl
+count-kept room Illegal next e = refl
+
+pub and-none : (a b : Bool) → b ≡ false → (a && b) ≡ false
+and-none true b e = e
+and-none false b e = refl
+
+-- a count that the room has space for, and nothing collected
+counted-by : (room k n : ℕ) (b : Bool) → ltb room n ≡ b → misphased room (pick b (dropped 3) (on (Data k n 0)) .phase) ≡ false
+unfolding pick
+counted-by room k n true e = refl
+counted-by room k n false e = false-or e (false-or (le-ltb room 0 (omega arith)) (and-none (not (eqb n 0)) (ltb n 0) (le-ltb n 0 (omega arith))))
+
+end-by : (room k m : ℕ) (b : Bool) → misphased room (pick b (record { phase = Idle; met = Whole k m; keeps = false }) (dropped 4) .phase) ≡ false
+unfolding pick
+end-by room k m true = refl
+end-by room k m false = refl
+
+-- one value more: it was no value past a met count, nor past the room with no count
+more-by : (n m : ℕ) (z : Bool) → (not z && leb n m) ≡ false → (not z && ltb n (m + 1)) ≡ false
+more-by n m true e = refl
+more-by n m false e = let h = leb-false n m e in le-ltb n (m + 1) (omega arith)
+
+value-inside : (room n m : ℕ) (z : Bool) → (not z && leb n m) ≡ false → (z && leb room m) ≡ false → ltb room n ≡ false → m < room
+value-inside room n m true x y e = leb-false room m y
+value-inside room n m false x y e = omega (arith, leb-false n m x, ltb-false room n e)
+
+-- so it can be counted wherever the count and the room can
+pub value-small : (room n m bound : ℕ) (z : Bool) → (not z && leb n m) ≡ false → (z && leb room m) ≡ false → n < bound → room < bound → m + 1 < bound
+value-small room n m bound true x y low high = omega (arith, leb-false room m y)
+value-small room n m bound false x y low high = omega (arith, leb-false n m x)
+
+value-by : (room k n m : ℕ) (a b : Bool) → (not (eqb n 0) && leb n m) ≡ a → (eqb n 0 && leb room m) ≡ b → ltb room n ≡ false
+    → misphased room (pick a (dropped 5) (pick b (dropped 6) (record { phase = Data k n (m + 1); met = Nothing; keeps = ltb m room })) .phase) ≡ false
+unfolding pick
+value-by room k n m true b x y e = refl
+value-by room k n m false true x y e = refl
+value-by room k n m false false x y e =
+    let h = value-inside room n m (eqb n 0) x y e in
+    false-or e (false-or (le-ltb room (m + 1) (omega arith)) (more-by n m (eqb n 0) x))
+
+data-kept : (room k n m : ℕ) (c : Class) → misphased room (Data k n m) ≡ false → misphased room (stepBy room (Data k n m) c 0 .phase) ≡ false
+unfolding endStep valueStep
+data-kept room k n m Separator e = refl
+data-kept room k n m Ending e = end-by room k m _
+data-kept room k n m Byte e = value-by room k n m _ _ refl refl (or-false (ltb room n) _ e .0)
+data-kept room k n m Other e = value-by room k n m _ _ refl refl (or-false (ltb room n) _ e .0)
+data-kept room k n m Illegal e = value-by room k n m _ _ refl refl (or-false (ltb room n) _ e .0)
+
+by-class : (room : ℕ) (p : Phase) (c : Class) (b : ℕ) → misphased room p ≡ false → misphased room (stepBy room p c b .phase) ≡ false
+unfolding counted
+by-class room Idle c b e = idle-kept room c
+by-class room Kind c b e = kind-kept room c b
+by-class room (First k) c b e = count-kept room c _ refl
+by-class room (Second k x) c b e = count-kept room c _ refl
+by-class room (Third k x y) c b e = count-kept room c _ refl
+by-class room (Fourth k x y z) c b e = count-kept room c _ (counted-by room k _ _ refl)
+by-class room (Data k n m) c b e = data-kept room k n m c e
+
+pub step-possible : (room : ℕ) (p : Phase) (w : ℕ) → misphased room p ≡ false → misphased room (stepOf room p w .phase) ≡ false
+unfolding stepOf
+step-possible room p w e = by-class room p (classOf w) _ e
+
+-- ---- a walk
+-- what holds where it stops and where it goes on holds of it
+either : (met : Met) (stop on : Walk) (P : Walk → Type 0) → P stop → P on → P (unless met stop on)
+either Nothing stop on P a b = b
+either (Whole k n) stop on P a b = a
+either (Lost n) stop on P a b = a
+
+stored-long : (keeps : Bool) (m v : ℕ) (room : List ℕ) → length (stored keeps m v room) ≡ length room
+unfolding stored pick
+stored-long true m v room = length-set room m v
+stored-long false m v room = refl
+
+pub record Kept (p : Phase) (room : List ℕ) (long : ℕ) (x : Walk) : Type 0 where
+  pub room-long : length (x .room) ≡ length room
+  pub at-most : x .answer .taken ≤ long
+  pub at-least : isNothing (x .answer .met) ≡ false → 1 ≤ x .answer .taken
+  pub phased : misphased (length room) p ≡ false → misphased (length room) (x .answer .phase) ≡ false
+
+pub walk-kept : (mode : ℕ) (p : Phase) (ws room : List ℕ) → Kept p room (length ws) (walkOf mode p ws room)
+unfolding walkOf
+walk-kept mode p [] room = record { room-long = refl; at-most = omega arith; at-least = λ e. absurd (subst T e tt); phased = λ e. e }
+walk-kept mode p (w ∷ ws) room =
+    let s = stepOf (length room) p w in
+    let r = stored (s .keeps) (collectedOf p) (valueOf mode w) room in
+    let same : length r ≡ length room = stored-long (s .keeps) (collectedOf p) (valueOf mode w) room in
+    let x = walkOf mode (s .phase) ws r in
+    let h = walk-kept mode (s .phase) ws r in
+    either (s .met) (after (s .phase) (s .met) 1 r) (past 1 x) (Kept p room (suc (length ws)))
+    (record { room-long = same; at-most = omega arith; at-least = λ e. omega arith; phased = step-possible (length room) p w })
+    (record {
+      room-long = h .room-long ∙ same;
+      at-most = omega (arith, h .at-most);
+      at-least = λ e. omega arith;
+      phased = λ e. subst (λ (k : ℕ). misphased k (x .answer .phase) ≡ false) same
+          (h .phased (subst (λ (k : ℕ). misphased k (s .phase) ≡ false) (sym same) (step-possible (length room) p w e)));
+    })
+
+module _ (mode : ℕ) (p : Phase) (ws room : List ℕ) where
+  pub walk-room : length (walkOf mode p ws room .room) ≡ length room
+  walk-room = walk-kept mode p ws room .room-long
+
+  pub walk-taken : walkOf mode p ws room .answer .taken ≤ length ws
+  walk-taken = walk-kept mode p ws room .at-most
+
+  pub walk-some : isNothing (walkOf mode p ws room .answer .met) ≡ false → 1 ≤ walkOf mode p ws room .answer .taken
+  walk-some = walk-kept mode p ws room .at-least
+
+  pub walk-possible : misphased (length room) p ≡ false → misphased (length room) (walkOf mode p ws room .answer .phase) ≡ false
+  walk-possible = walk-kept mode p ws room .phased
+
+-- ---- a walk over places
+laid-long : (met : Met) (vs room : List ℕ) → length vs ≤ length room → length (placeRoom met vs room) ≡ length room
+laid-long Nothing vs room h = refl
+laid-long (Lost n) vs room h = refl
+laid-long (Whole k n) vs room h = let e = length-append vs (drop (length vs) room) in let d = length-drop (length vs) room in omega arith
+
+-- so many whole places were taken, and the phase is as it was
+pub record Along (p : Phase) (size n : ℕ) (room : List ℕ) (x : Walk) : Type 0 where
+  pub count : ℕ
+  pub at-most : count ≤ n
+  pub at-least : isNothing (x .answer .met) ≡ false → 1 ≤ count
+  pub whole : x .answer .taken ≡ count * size
+  pub phase : x .answer .phase ≡ p
+  pub room-long : size - 1 ≤ length room → length (x .room) ≡ length room
+
+pub places-along : (mode : ℕ) (p : Phase) (size n : ℕ) (ws room : List ℕ) → n * size ≤ length ws → Along p size n room (walkPlaces mode p (placesIn size n ws) room)
+unfolding walkPlaces
+places-along mode p size zero ws room h =
+    record { count = 0; at-most = omega arith; at-least = λ e. absurd (subst T e tt); whole = sym (zero-mul size); phase = refl; room-long = λ f. refl }
+places-along mode p size (suc n) ws room h =
+    let next = suc-mul n size in
+    let x = take size ws in
+    let long : length x ≡ size = length-take-le size ws (omega arith) in
+    let met = metAt (getD x 0 0) (length (drop 1 x)) in
+    let vs = map (valueOf mode) (drop 1 x) in
+    let l : length vs ≡ size - 1 = length-map (drop 1 x) (valueOf mode) ∙ length-drop 1 x ∙ ap (λ (k : ℕ). k - 1) long in
+    let o = walkPlaces mode p (placesIn size n (drop size ws)) room in
+    let rest : n * size ≤ length (drop size ws) = rw (length-drop size ws) (omega arith) in
+    let on = places-along mode p size n (drop size ws) room rest in
+    either met (after p met (length x) (placeRoom met vs room)) (past (length x) o) (Along p size (suc n) room)
+    (record {
+      count = 1;
+      at-most = omega arith;
+      at-least = λ e. omega arith;
+      whole = long ∙ sym (one-mul size);
+      phase = refl;
+      room-long = λ f. laid-long met vs room (omega (arith, l, f));
+    })
+    (record {
+      count = suc (on .count);
+      at-most = omega (arith, on .at-most);
+      at-least = λ e. omega arith;
+      whole = omega (arith, long, on .whole, suc-mul (on .count) size);
+      phase = on .phase;
+      room-long = on .room-long;
+    })
+
+module _ (mode : ℕ) (p : Phase) (size n : ℕ) (ws room : List ℕ) (fits : n * size ≤ length ws) where
+  pub places-room : size - 1 ≤ length room → length (walkPlaces mode p (placesIn size n ws) room .room) ≡ length room
+  places-room = places-along mode p size n ws room fits .room-long
+
+  pub places-taken : walkPlaces mode p (placesIn size n ws) room .answer .taken ≤ n * size
+  places-taken = let a = places-along mode p size n ws room fits in omega (arith, a .whole, mul-le-mul-right size (a .at-most))
+
+  pub places-some : 1 ≤ size → isNothing (walkPlaces mode p (placesIn size n ws) room .answer .met) ≡ false
+      → 1 ≤ walkPlaces mode p (placesIn size n ws) room .answer .taken
+  places-some one e =
+      let a = places-along mode p size n ws room fits in
+      let m : 1 * size ≤ a .count * size = mul-le-mul-right size (a .at-least e) in
+      omega (arith, a .whole, m, one-mul size)

@@ -1,0 +1,304 @@
+-- Laws of runs: a run taken at once is the same walk.
+-- Assumes nothing.
+use mathlib.Core.Path.{_≡_, refl, sym, ap, ap₂, _∙_, subst}
+use mathlib.Core.Bool.{Bool, true, false, _&&_, _||_, not}
+use mathlib.Core.List.{List, [], _∷_, _++_, map}
+use Prim.Native.Nat.{ℕ, zero, suc, _+_, _-_, _%_, _≤_, _<_, min}
+use native.Mathlib.Nat.{add-zero, add-assoc}
+use native.Mathlib.Numerals.{add-one}
+use native.Mathlib.Omega.{arith}
+use lib.Dec.{T, eqb, leb, ltb}
+use lib.ListN.{length, getD, take, drop, set, length-set, length-take, length-drop, drop-of-length-le}
+use lib.Seq.{length-take-le, take-suc-set, drop-set-lt, append-snoc, paste, paste-zero}
+use borrow.Rule.Slice.PartMut.{putMid}
+use borrow.Author.Tests.{lt-leb, lt-ltb, ltb-true}
+use Rattle.lists.specs.Tests.{pick}
+use Rattle.lists.proofs.Tests.{pick-true, pick-false}
+use Rattle.lists.proofs.Lists.{map-part}
+use Rattle.lists.proofs.Loops.{next-drop, mid-paste}
+use Rattle.words.specs.Modes.{valueOf}
+use Rattle.words.specs.Class.{classOf, isCode}
+use Rattle.words.specs.declared.class.Class.{Class}
+use Rattle.words.specs.declared.class.Class.the-variants.{Byte, Other, Separator, Ending, Illegal}
+use Rattle.machine.specs.declared.phase.Phase.{Phase}
+use Rattle.machine.specs.declared.phase.Phase.the-variants.{Idle, Kind, First, Second, Third, Fourth, Data}
+use Rattle.machine.specs.declared.step.Met.the-variants.{Nothing, Whole}
+use Rattle.machine.specs.declared.step.Step.{Step}
+use Rattle.machine.specs.Machine.{on, dropped, idleStep, kindStep, countStep, counted, endStep, valueStep, dataStep, stepOf}
+use Rattle.machine.specs.Walk.{Walk, past, collectedOf, stored, walkOf}
+use Rattle.machine.specs.Runs.{runOf, endOf, takenBy, ranPhase, ranRoom}
+use Rattle.machine.proofs.WalkLaws.{past-zero, past-past, word-goes}
+use Rattle.machine.proofs.Kept.{and-none}
+
+-- ---- where a run ends
+pub run-code : (w : ℕ) (ws : List ℕ) → isCode (classOf w) ≡ true → runOf (w ∷ ws) ≡ 0
+unfolding runOf
+run-code w ws e = pick-true _ _ e
+
+pub run-word : (w : ℕ) (ws : List ℕ) → isCode (classOf w) ≡ false → runOf (w ∷ ws) ≡ suc (runOf ws)
+unfolding runOf
+run-word w ws e = pick-false _ _ e
+
+-- a run that has a word begins with one that is no code
+run-begins : (w : ℕ) (ws : List ℕ) (j : ℕ) → suc j ≤ runOf (w ∷ ws) → (isCode (classOf w) ≡ false) × (j ≤ runOf ws)
+run-begins w ws j = go (isCode (classOf w)) refl
+  where
+    go : (b : Bool) → isCode (classOf w) ≡ b → suc j ≤ runOf (w ∷ ws) → (isCode (classOf w) ≡ false) × (j ≤ runOf ws)
+    go true e h = absurd (omega (arith, h, run-code w ws e))
+    go false e h = (e, omega (arith, h, run-word w ws e))
+
+run-none : (k : ℕ) → suc k ≤ runOf [] → ⊥
+unfolding runOf
+run-none k h = omega arith
+
+-- a part of the words has no longer a run than all of them, nor one longer than itself
+run-by : (b : Bool) (n i j : ℕ) → (i ≤ j) × (i ≤ n) → (pick b 0 (suc i) ≤ pick b 0 (suc j)) × (pick b 0 (suc i) ≤ suc n)
+unfolding pick
+run-by true n i j h = (omega arith, omega arith)
+run-by false n i j h = (omega (arith, h .0), omega (arith, h .1))
+
+long-by : (b : Bool) (i n : ℕ) → i ≤ n → pick b 0 (suc i) ≤ suc n
+unfolding pick
+long-by true i n h = omega arith
+long-by false i n h = omega arith
+
+run-of-part : (n : ℕ) (ws : List ℕ) → (runOf (take n ws) ≤ runOf ws) × (runOf (take n ws) ≤ n)
+unfolding runOf
+run-of-part zero ws = (omega arith, omega arith)
+run-of-part (suc n) [] = (omega arith, omega arith)
+run-of-part (suc n) (w ∷ ws) = run-by (isCode (classOf w)) n (runOf (take n ws)) (runOf ws) (run-of-part n ws)
+
+run-long : (ws : List ℕ) → runOf ws ≤ length ws
+unfolding runOf
+run-long [] = omega arith
+run-long (w ∷ ws) = long-by (isCode (classOf w)) (runOf ws) (length ws) (run-long ws)
+
+-- ---- a word of a run
+idle-class : (c : Class) → isCode c ≡ false → idleStep c ≡ on Idle
+idle-class Byte e = refl
+idle-class Other e = refl
+idle-class Separator e = absurd (subst T e tt)
+idle-class Ending e = absurd (subst T e tt)
+idle-class Illegal e = refl
+
+idle-word : (room w : ℕ) → isCode (classOf w) ≡ false → stepOf room Idle w ≡ on Idle
+unfolding stepOf
+idle-word room w e = idle-class (classOf w) e
+
+data-class : (room k n m : ℕ) (c : Class) → isCode c ≡ false → dataStep room k n m c ≡ valueStep room k n m
+data-class room k n m Byte e = refl
+data-class room k n m Other e = refl
+data-class room k n m Separator e = absurd (subst T e tt)
+data-class room k n m Ending e = absurd (subst T e tt)
+data-class room k n m Illegal e = refl
+
+abbrev collecting : ℕ → ℕ → ℕ → Step
+collecting k n m = record { phase = Data k n (m + 1); met = Nothing; keeps = true }
+
+-- there is space for a word
+pub has-space : (room n m : ℕ) → m < endOf room n → (m < room) × ((not (eqb n 0) && leb n m) ≡ false)
+unfolding endOf pick
+has-space room n m = go (eqb n 0)
+  where
+    go : (b : Bool) → m < pick b room (min n room) → (m < room) × ((not b && leb n m) ≡ false)
+    go true h = (h, refl)
+    go false h = (omega arith, lt-leb n m (omega arith))
+
+-- a value that is not past a met count, and for which there is room
+pub value-kept : (room k n m : ℕ) → (not (eqb n 0) && leb n m) ≡ false → m < room → valueStep room k n m ≡ record { phase = Data k n (m + 1); met = Nothing; keeps = true }
+unfolding valueStep
+value-kept room k n m e h =
+    pick-false _ _ e ∙ pick-false _ _ (and-none (eqb n 0) (leb room m) (lt-leb room m h))
+    ∙ ap (λ (b : Bool). record { phase = Data k n (m + 1); met = Nothing; keeps = b }) (lt-ltb m room h)
+
+value-word : (room k n m : ℕ) → m < endOf room n → valueStep room k n m ≡ collecting k n m
+value-word room k n m h = let s = has-space room n m h in value-kept room k n m (s .1) (s .0)
+
+data-word : (room k n m w : ℕ) → isCode (classOf w) ≡ false → m < endOf room n → stepOf room (Data k n m) w ≡ collecting k n m
+unfolding stepOf
+data-word room k n m w e h = data-class room k n m (classOf w) e ∙ value-word room k n m h
+
+idle-stored : (v : ℕ) (room : List ℕ) → room ≡ stored false 0 v room
+unfolding stored pick
+idle-stored v room = refl
+
+data-stored : (m v : ℕ) (room : List ℕ) → set room m v ≡ stored true m v room
+unfolding stored pick
+data-stored m v room = refl
+
+one-more : (j : ℕ) → 1 + j ≡ suc j
+one-more j = omega arith
+
+-- ---- j words of a run, idle
+idle-run : (mode j : ℕ) (ws room : List ℕ) → j ≤ runOf ws → walkOf mode Idle ws room ≡ past j (walkOf mode Idle (drop j ws) room)
+idle-run mode zero ws room h = sym (past-zero (walkOf mode Idle ws room))
+idle-run mode (suc j) [] room h = absurd (run-none j h)
+idle-run mode (suc j) (w ∷ ws) room h =
+    let b = run-begins w ws j h in
+    word-goes mode Idle w ws room (on Idle) (sym (idle-word (length room) w (b .0))) room (idle-stored (valueOf mode w) room) refl
+    ∙ ap (past 1) (idle-run mode j ws room (b .1))
+    ∙ past-past 1 j (walkOf mode Idle (drop j ws) room)
+    ∙ ap (λ (n : ℕ). past n (walkOf mode Idle (drop j ws) room)) (one-more j)
+
+-- ---- j words of a run, of a block's data
+-- one value stored, then j more behind it
+paste-behind : (room vs : List ℕ) (m v j : ℕ) → m < length room → paste (set room m v) (m + 1) vs j ≡ paste room m (v ∷ vs) (suc j)
+paste-behind room vs m v j h =
+    let e : m + 1 + j ≡ m + suc j = omega arith in
+    ap₂ (λ (a b : List ℕ). a ++ take j vs ++ b)
+    (ap (λ (n : ℕ). take n (set room m v)) (add-one m) ∙ take-suc-set room m v h)
+    (drop-set-lt (m + 1 + j) room m v (omega arith) ∙ ap (λ (n : ℕ). drop n room) e)
+    ∙ ap (λ (a : List ℕ). a ++ drop (m + suc j) room) (append-snoc (take m room) v (take j vs))
+
+data-run : (mode k n : ℕ) (j m : ℕ) (ws room : List ℕ) → j ≤ runOf ws → j ≤ endOf (length room) n - m
+    → walkOf mode (Data k n m) ws room ≡ past j (walkOf mode (Data k n (m + j)) (drop j ws) (paste room m (map (valueOf mode) ws) j))
+data-run mode k n zero m ws room h s =
+    ap₂ (λ (x : ℕ) (r : List ℕ). walkOf mode (Data k n x) ws r) (sym (add-zero m)) (paste-zero room m (map (valueOf mode) ws)) ∙ sym (past-zero _)
+data-run mode k n (suc j) m [] room h s = absurd (run-none j h)
+data-run mode k n (suc j) m (w ∷ ws) room h s =
+    let b = run-begins w ws j h in
+    let v = valueOf mode w in
+    let more : m < endOf (length room) n = omega arith in
+    let long : length (set room m v) ≡ length room = length-set room m v in
+    let left : j ≤ endOf (length (set room m v)) n - (m + 1) = rw long (omega arith) in
+    word-goes mode (Data k n m) w ws room (collecting k n m) (sym (data-word (length room) k n m w (b .0) more)) (set room m v) (data-stored m v room) refl
+    ∙ ap (past 1) (data-run mode k n j (m + 1) ws (set room m v) (b .1) left)
+    ∙ past-past 1 j _
+    ∙ ap₂ (λ (i : ℕ) (x : Walk). past i x) (one-more j)
+    (ap₂ (λ (i : ℕ) (r : List ℕ). walkOf mode (Data k n i) (drop j ws) r) (add-assoc m 1 j ∙ ap (λ (i : ℕ). m + i) (one-more j)) (paste-behind room (map (valueOf mode) ws) m v j (has-space (length room) n m more .0)))
+
+-- ---- a run taken at once
+none : (mode : ℕ) (p : Phase) (ws room : List ℕ) (k : ℕ) → k ≡ 0 → walkOf mode p ws room ≡ past k (walkOf mode p (drop k ws) room)
+none mode p ws room k e = rw e (sym (past-zero (walkOf mode p ws room)))
+
+pub run-taken : (mode : ℕ) (p : Phase) (ws room : List ℕ) (k : ℕ) → k ≡ takenBy p (length room) ws
+    → walkOf mode p ws room ≡ past k (walkOf mode (ranPhase p k) (drop k ws) (ranRoom mode p ws k room))
+run-taken mode Idle ws room k e = idle-run mode k ws room (omega (arith, e))
+run-taken mode Kind ws room k e = none mode Kind ws room k e
+run-taken mode (First t) ws room k e = none mode (First t) ws room k e
+run-taken mode (Second t a) ws room k e = none mode (Second t a) ws room k e
+run-taken mode (Third t a b) ws room k e = none mode (Third t a b) ws room k e
+run-taken mode (Fourth t a b c) ws room k e = none mode (Fourth t a b c) ws room k e
+run-taken mode (Data t n m) ws room k e =
+    let x = run-of-part (min (length ws) (endOf (length room) n - m)) ws in
+    data-run mode t n k m ws room (omega (arith, e, x .0)) (omega (arith, e, x .1))
+
+-- ---- the loop that finds a run's end
+pub run-next : (ws : List ℕ) (i : ℕ) → i < length ws → isCode (classOf (getD ws i 0)) ≡ false → i + 1 + runOf (drop (i + 1) ws) ≡ i + runOf (drop i ws)
+run-next ws i h e = let r = ap runOf (next-drop ws i h) ∙ run-word (getD ws i 0) (drop (i + 1) ws) e in omega (arith, r)
+
+pub run-found : (ws : List ℕ) (i : ℕ) → i < length ws → isCode (classOf (getD ws i 0)) ≡ true → i ≡ i + runOf (drop i ws)
+run-found ws i h e = let r = ap runOf (next-drop ws i h) ∙ run-code (getD ws i 0) (drop (i + 1) ws) e in omega (arith, r)
+
+pub run-out : (ws : List ℕ) (i : ℕ) → length ws ≤ i → i ≡ i + runOf (drop i ws)
+unfolding runOf
+run-out ws i h = let r = ap runOf (drop-of-length-le ws h) in omega (arith, r)
+
+-- ---- sizes
+-- what a phase takes are words that there are, and they fit into the room behind those collected
+pub taken-within : (p : Phase) (room : ℕ) (ws : List ℕ) → takenBy p room ws ≤ length ws
+taken-within Idle room ws = run-long ws
+taken-within Kind room ws = omega arith
+taken-within (First t) room ws = omega arith
+taken-within (Second t a) room ws = omega arith
+taken-within (Third t a b) room ws = omega arith
+taken-within (Fourth t a b c) room ws = omega arith
+taken-within (Data t n m) room ws = let x = run-of-part (min (length ws) (endOf room n - m)) ws in omega (arith, x .1)
+
+end-in-room : (room n : ℕ) → endOf room n ≤ room
+unfolding endOf pick
+end-in-room room n = go (eqb n 0)
+  where
+    go : (b : Bool) → pick b room (min n room) ≤ room
+    go true = omega arith
+    go false = omega arith
+
+pub data-fits : (t n m room : ℕ) (ws : List ℕ) (k : ℕ) → k ≡ takenBy (Data t n m) room ws → (k ≡ 0 → ⊥) → m + k ≤ room
+data-fits t n m room ws k e some =
+    let x = run-of-part (min (length ws) (endOf room n - m)) ws in
+    omega (arith, e, some, x .1, end-in-room room n)
+
+-- and the number collected stays below any bound of the room
+pub data-small : (t n m room : ℕ) (ws : List ℕ) (k bound : ℕ) → k ≡ takenBy (Data t n m) room ws → m < bound → room < bound → m + k < bound
+data-small t n m room ws k bound e low high =
+    let x = run-of-part (min (length ws) (endOf room n - m)) ws in
+    omega (arith, e, x .1, end-in-room room n)
+
+-- ---- a value that is kept has its place in the room
+count-keeps : (c : Class) (next : Step) → next .keeps ≡ false → countStep c next .keeps ≡ false
+count-keeps Byte next e = e
+count-keeps Other next e = refl
+count-keeps Separator next e = refl
+count-keeps Ending next e = refl
+count-keeps Illegal next e = refl
+
+idle-keeps : (c : Class) → idleStep c .keeps ≡ false
+idle-keeps Byte = refl
+idle-keeps Other = refl
+idle-keeps Separator = refl
+idle-keeps Ending = refl
+idle-keeps Illegal = refl
+
+kind-keeps : (c : Class) (b : ℕ) → kindStep c b .keeps ≡ false
+kind-keeps Byte b = refl
+kind-keeps Other b = refl
+kind-keeps Separator b = refl
+kind-keeps Ending b = refl
+kind-keeps Illegal b = refl
+
+counted-keeps : (room k n : ℕ) → counted room k n .keeps ≡ false
+unfolding counted pick
+counted-keeps room k n = go (ltb room n)
+  where
+    go : (b : Bool) → pick b (dropped 3) (on (Data k n 0)) .keeps ≡ false
+    go true = refl
+    go false = refl
+
+end-keeps : (k n m : ℕ) → endStep k n m .keeps ≡ false
+unfolding endStep pick
+end-keeps k n m = go (eqb n 0 || eqb n m)
+  where
+    go : (b : Bool) → pick b (record { phase = Idle; met = Whole k m; keeps = false }) (dropped 4) .keeps ≡ false
+    go true = refl
+    go false = refl
+
+never : {A : Type 0} → false ≡ true → A
+never e = absurd (subst T (sym e) tt)
+
+value-keeps : (room k n m : ℕ) → valueStep room k n m .keeps ≡ true → m < room
+unfolding valueStep pick
+value-keeps room k n m = go (not (eqb n 0) && leb n m) (eqb n 0 && leb room m)
+  where
+    go : (a b : Bool) → pick a (dropped 5) (pick b (dropped 6) (record { phase = Data k n (m + 1); met = Nothing; keeps = ltb m room })) .keeps ≡ true → m < room
+    go true b e = never e
+    go false true e = never e
+    go false false e = ltb-true m room e
+
+data-keeps : (room k n m : ℕ) (c : Class) → dataStep room k n m c .keeps ≡ true → m < room
+data-keeps room k n m Byte e = value-keeps room k n m e
+data-keeps room k n m Other e = value-keeps room k n m e
+data-keeps room k n m Separator e = never e
+data-keeps room k n m Ending e = never (sym (end-keeps k n m) ∙ e)
+data-keeps room k n m Illegal e = value-keeps room k n m e
+
+pub keeps-inside : (room : ℕ) (p : Phase) (w : ℕ) → stepOf room p w .keeps ≡ true → collectedOf p < room
+unfolding stepOf
+keeps-inside room Idle w e = never (sym (idle-keeps (classOf w)) ∙ e)
+keeps-inside room Kind w e = never (sym (kind-keeps (classOf w) (w % 256)) ∙ e)
+keeps-inside room (First k) w e = never (sym (count-keeps (classOf w) _ refl) ∙ e)
+keeps-inside room (Second k x) w e = never (sym (count-keeps (classOf w) _ refl) ∙ e)
+keeps-inside room (Third k x y) w e = never (sym (count-keeps (classOf w) _ refl) ∙ e)
+keeps-inside room (Fourth k x y z) w e = never (sym (count-keeps (classOf w) _ (counted-keeps room k _)) ∙ e)
+keeps-inside room (Data k n m) w e = data-keeps room k n m (classOf w) e
+
+-- ---- parts lent for a run
+pub front-long : (k : ℕ) (l : List ℕ) → k ≤ length l → k ≡ length (take k l)
+front-long k l h = sym (length-take-le k l h)
+
+-- k elements behind the first m of them
+pub same-long : (k m : ℕ) (ws room : List ℕ) → m + k ≤ length room → k ≤ length ws → length (take (m + k - m) (drop m room)) ≡ length (take k ws)
+same-long k m ws room h g = simp (length-take, length-drop) (omega arith)
+
+-- and the room with them changed
+pub ran-mid : (mode k m : ℕ) (ws room ys : List ℕ) → ys ≡ map (valueOf mode) (take k ws) → putMid m (m + k - m) room ys ≡ paste room m (map (valueOf mode) ws) k
+ran-mid mode k m ws room ys e = mid-paste room (map (valueOf mode) ws) ys m k (e ∙ map-part (valueOf mode) 0 k ws)

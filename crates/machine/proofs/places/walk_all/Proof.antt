@@ -1,0 +1,168 @@
+-- `machine::places::walk_all` meets its contract. Assumes nothing.
+use mathlib.Core.Path.{_≡_, refl, sym, ap, _∙_, subst}
+use mathlib.Core.List.{List}
+use Prim.Native.Nat.{ℕ, _-_, _/_, _≤_}
+use native.Mathlib.Nat.{sub-zero}
+use native.Mathlib.Omega.{arith}
+use lib.ListN.{length, drop}
+use borrow.Author.Tests.{not-true, not-false}
+use Rattle.machine.specs.Walk.{past}
+use Rattle.machine.specs.Places.{placesIn, placeRoom, walkPlaces}
+use Rattle.machine.proofs.WalkLaws.{past-zero}
+use Rattle.machine.proofs.PlaceLaws.{turn-stops, turn-goes, turns-end, place-fits, one-left, none-left, values-fit}
+use borrow.Author.Needs.{needs}
+use Rattle.machine.proofs.places.walk_all.Statement.{statement}
+use Rattle.machine.proofs.places.walk_all.Tie as tie
+
+-- the places that are left are those of the words from i on
+abbrev Inv-loop : tie.InvT-loop
+Inv-loop mode phase size words room₀ i₀ room i =
+    (i ≤ length words)
+    × (room ≡ room₀)
+    × (past i (walkPlaces mode phase (placesIn size ((length words - i) / size) (drop i words)) room₀) ≡ walkPlaces mode phase (placesIn size (length words / size) words) room₀)
+
+abbrev μ-loop : tie.MeasureT-loop
+μ-loop mode phase size words room₀ i₀ room i = length words - i
+
+loop-holds : tie.Need-loop-holds Inv-loop μ-loop
+loop-holds c =
+    let a = c .before .before .args in
+    (omega arith, refl, past-zero _ ∙ ap (λ (n : ℕ). walkPlaces (a .mode) (a .phase) (placesIn (a .size) (n / a .size) (a .words .now)) (a .room .now)) (sub-zero (length (a .words .now))))
+
+sub-loop : tie.Need-sub-loop Inv-loop μ-loop
+sub-loop c = search needs
+
+add-e : tie.Need-add-e Inv-loop μ-loop
+add-e c =
+    let t = c in
+    let l = t .before .loop in
+    let h = place-fits _ _ _ (l .inv .0) (t .loop-test .taken) in
+    search needs
+
+mul-met-at : tie.Need-mul-met-at Inv-loop μ-loop
+mul-met-at c =
+    let t = c in
+    let l = t .before .loop in
+    let h = place-fits _ _ _ (l .inv .0) (t .loop-test .taken) in
+    search needs
+
+shared-slice-read-met-at : tie.Need-shared-slice-read-met-at Inv-loop μ-loop
+shared-slice-read-met-at c =
+    let t = c .before in
+    let l = t .before .loop in
+    let h = place-fits _ _ _ (l .inv .0) (t .loop-test .taken) in
+    search needs
+
+sub-met-at : tie.Need-sub-met-at Inv-loop μ-loop
+sub-met-at c = search needs
+
+met-at-requires : tie.Need-met-at-requires Inv-loop μ-loop
+met-at-requires c κs = search needs
+
+is-nothing-requires : tie.Need-is-nothing-requires Inv-loop μ-loop
+is-nothing-requires c κs = search needs
+
+add-put-place : tie.Need-add-put-place Inv-loop μ-loop
+add-put-place c =
+    let t = c .before .before .before .before in
+    let l = t .before .loop in
+    let h = place-fits _ _ _ (l .inv .0) (t .loop-test .taken) in
+    search needs
+
+mul-put-place : tie.Need-mul-put-place Inv-loop μ-loop
+mul-put-place c =
+    let t = c .before .before .before .before in
+    let l = t .before .loop in
+    let h = place-fits _ _ _ (l .inv .0) (t .loop-test .taken) in
+    search needs
+
+sub-put-place : tie.Need-sub-put-place Inv-loop μ-loop
+sub-put-place c = search needs
+
+part-put-place-start : tie.Need-part-put-place-start Inv-loop μ-loop
+part-put-place-start c = search needs
+
+part-put-place-end : tie.Need-part-put-place-end Inv-loop μ-loop
+part-put-place-end c =
+    let t = c .before .before .before .before in
+    let l = t .before .loop in
+    let h = place-fits _ _ _ (l .inv .0) (t .loop-test .taken) in
+    search needs
+
+put-place-requires : tie.Need-put-place-requires Inv-loop μ-loop
+put-place-requires c κs =
+    let t = c .before .before .before .before .before .before in
+    let l = t .before .loop in
+    let p = t .before .before .before .before .pre in
+    let a = t .before .before .before .before .args in
+    values-fit (a .size) (l .i) _ (a .words .now) (subst (λ (r : List ℕ). a .size - 1 ≤ length r) (sym (l .inv .1)) (p .1))
+
+same-length : tie.Need-same-length Inv-loop μ-loop
+same-length c = c .before .before .put-place .kept .1 .1 .1 .0 ∙ ap length (c .before .before .before .before .before .before .before .before .before .before .loop .inv .1)
+
+returns : tie.Need-returns Inv-loop μ-loop
+returns c =
+    let u = c .before .before .before .before .before .before .before in
+    let t = u .before .before in
+    let l = t .before .loop in
+    let s = t .before .before .before .before in
+    let a = s .args in
+    let h = place-fits _ _ _ (l .inv .0) (t .loop-test .taken) in
+    turn-stops (a .mode) (a .phase) (a .size) (s .pre .0) _ _ (l .i) (a .words .now) (a .room .now) (u .met-at .result) (one-left _ _ _ (s .pre .0) h) h (u .met-at .ensures)
+    _ (l .inv .2) _ (sym (c .before .before .before .before .before .before .is-nothing .ensures) ∙ not-true _ (c .before .before .before .before .before .if1 .taken))
+    (c .before .before .put-place .ensures ∙ ap (placeRoom (u .met-at .result) _) (l .inv .1))
+
+loop-less : tie.Need-loop-less Inv-loop μ-loop
+loop-less c =
+    let t = c .before .before .before .before in
+    omega (arith, t .loop-test .taken, t .before .before .before .before .pre .0)
+
+loop-again : tie.Need-loop-again Inv-loop μ-loop
+loop-again c =
+    let u = c .before .before in
+    let t = u .before .before in
+    let l = t .before .loop in
+    let s = t .before .before .before .before in
+    let a = s .args in
+    let h = place-fits _ _ _ (l .inv .0) (t .loop-test .taken) in (
+      h,
+      l .inv .1,
+      turn-goes (a .mode) (a .phase) (a .size) (s .pre .0) _ _ (l .i) (a .words .now) (a .room .now) (u .met-at .result) (one-left _ _ _ (s .pre .0) h) h (u .met-at .ensures)
+          _ (l .inv .2) (sym (c .before .is-nothing .ensures) ∙ not-false _ (c .if1 .left)),
+    )
+
+same-length-2 : tie.Need-same-length-2 Inv-loop μ-loop
+same-length-2 c = search needs
+
+returns-2 : tie.Need-returns-2 Inv-loop μ-loop
+returns-2 c =
+    let l = c .before .loop in
+    let a = c .before .before .before .before .args in
+    turns-end (a .mode) (a .phase) (a .size) (c .before .before .before .before .pre .0) _ (l .i) (a .words .now) (a .room .now) _ _ (none-left _ _ _ (c .loop-test .left)) (l .inv .1) (l .inv .2)
+
+pub walk-all-spec : {M : Type 1} → statement M
+walk-all-spec =
+    tie.close
+    (tie.spec
+    Inv-loop
+    μ-loop
+    loop-holds
+    sub-loop
+    add-e
+    mul-met-at
+    shared-slice-read-met-at
+    sub-met-at
+    met-at-requires
+    is-nothing-requires
+    add-put-place
+    mul-put-place
+    sub-put-place
+    part-put-place-start
+    part-put-place-end
+    put-place-requires
+    same-length
+    returns
+    loop-less
+    loop-again
+    same-length-2
+    returns-2)

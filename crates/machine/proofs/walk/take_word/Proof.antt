@@ -1,0 +1,50 @@
+-- `machine::walk::take_word` meets its contract. Assumes nothing.
+use mathlib.Core.Path.{sym, ap, ap₂, _∙_}
+use Prim.Native.Nat.{ℕ}
+use lib.ListN.{length}
+use Rattle.machine.specs.declared.step.Step.{Step}
+use Rattle.machine.specs.Walk.{stored}
+use Rattle.machine.proofs.RunLaws.{keeps-inside}
+use borrow.Author.Needs.{needs}
+use Rattle.machine.proofs.walk.take_word.Statement.{statement}
+use Rattle.machine.proofs.walk.take_word.Tie as tie
+
+step-word-requires : tie.Need-step-word-requires
+step-word-requires c κs = search needs
+
+collected-of-requires : tie.Need-collected-of-requires
+collected-of-requires c κs = search needs
+
+value-of-requires : tie.Need-value-of-requires
+value-of-requires c κs = search needs
+
+put-value-requires : tie.Need-put-value-requires
+put-value-requires c κs = λ e.
+    let s = c .before .before .before in
+    let g = s .before .before .args in
+    rw (c .before .before .collected-of .ensures)
+    (keeps-inside (length (g .room .now)) (g .phase) (g .w) (sym (ap (λ (x : Step). x .keeps) (s .step-word .ensures)) ∙ e))
+
+same-length : tie.Need-same-length
+same-length c = search needs
+
+returns : tie.Need-returns
+returns c =
+    let v = c .before .before .before .before in
+    let s = v .before .before in
+    let g = s .before .before .args in (
+      s .step-word .ensures,
+      c .before .before .put-value .ensures
+          ∙ ap₂ (λ (m x : ℕ). stored (s .step-word .result .keeps) m x (g .room .now)) (v .before .collected-of .ensures) (v .value-of .ensures),
+    )
+
+pub take-word-spec : {M : Type 1} → statement M
+take-word-spec =
+    tie.close
+    (tie.spec
+    step-word-requires
+    collected-of-requires
+    value-of-requires
+    put-value-requires
+    same-length
+    returns)

@@ -1,0 +1,50 @@
+-- Runs of words that a phase takes with no report. Only the promises of private functions cite this.
+-- Assumes nothing.
+use Prim.Native.Nat.{ℕ, suc, _+_, _-_, min}
+use mathlib.Core.List.{List, [], _∷_, map}
+use lib.Dec.{eqb}
+use lib.ListN.{length, take}
+use lib.Seq.{paste}
+use Rattle.lists.specs.Tests.{pick}
+use Rattle.words.specs.Modes.{valueOf}
+use Rattle.words.specs.Class.{classOf, isCode}
+use Rattle.machine.specs.declared.phase.Phase.{Phase}
+use Rattle.machine.specs.declared.phase.Phase.the-variants.{Idle, Kind, First, Second, Third, Fourth, Data}
+
+-- how many words stand before the first 309h or 30Ah
+unfoldable pub runOf : List ℕ → ℕ
+runOf [] = 0
+runOf (w ∷ ws) = let on = runOf ws in pick (isCode (classOf w)) 0 (suc on)
+
+-- how many data words a block may have: up to the count, if it is stated, and to the room's end
+unfoldable pub endOf : ℕ → ℕ → ℕ
+endOf room n = pick (eqb n 0) room (min n room)
+
+-- how many words a phase takes at once: idle passes over a run, data takes as much of one as there is space for
+abbrev pub takenBy : Phase → ℕ → List ℕ → ℕ
+takenBy Idle room ws = runOf ws
+takenBy Kind room ws = 0
+takenBy (First k) room ws = 0
+takenBy (Second k a) room ws = 0
+takenBy (Third k a b) room ws = 0
+takenBy (Fourth k a b c) room ws = 0
+takenBy (Data k n m) room ws = runOf (take (min (length ws) (endOf room n - m)) ws)
+
+-- the phase and the room after k words of a run
+abbrev pub ranPhase : Phase → ℕ → Phase
+ranPhase Idle j = Idle
+ranPhase Kind j = Kind
+ranPhase (First k) j = First k
+ranPhase (Second k a) j = Second k a
+ranPhase (Third k a b) j = Third k a b
+ranPhase (Fourth k a b c) j = Fourth k a b c
+ranPhase (Data k n m) j = Data k n (m + j)
+
+abbrev pub ranRoom : ℕ → Phase → List ℕ → ℕ → List ℕ → List ℕ
+ranRoom mode Idle ws j room = room
+ranRoom mode Kind ws j room = room
+ranRoom mode (First k) ws j room = room
+ranRoom mode (Second k a) ws j room = room
+ranRoom mode (Third k a b) ws j room = room
+ranRoom mode (Fourth k a b c) ws j room = room
+ranRoom mode (Data k n m) ws j room = paste room m (map (valueOf mode) ws) j

@@ -1,0 +1,115 @@
+// Fixed lines: place after place, to the first report or to the last place.
+use crate::phase::Phase;
+use crate::runs;
+use crate::step::Met;
+use crate::walk;
+use crate::walk::Walked;
+use words::class;
+use words::class::Class;
+ghost use mathlib.Core.Path.{_≡_};
+ghost use mathlib.Core.List.{map};
+ghost use Prim.Native.Nat.{_-_, _/_, _≤_};
+ghost use lib.ListN.{length};
+ghost use Rattle.words.specs.Modes.{valueOf};
+ghost use Rattle.machine.specs.Walk.{leaves};
+ghost use Rattle.machine.specs.Places.{placesIn, metAt, placeRoom, walkPlaces, walkFixed};
+
+// What a place of that type word and n values reports: nothing where it is empty.
+fn met_at(w: u16, n: usize) -> Met
+    ensures { λ r. ⌜ r ≡ metAt w n ⌝ }
+{
+    let c = class::class_of(w);
+    let kind = (w % 256) as u8;
+    match c {
+        Class::Byte => {
+            if kind == 0 {
+                return Met::Nothing;
+            }
+            Met::Whole {
+                kind: kind,
+                length: n,
+            }
+        }
+        Class::Other => Met::Lost { reason: 2 },
+        Class::Separator => Met::Lost { reason: 2 },
+        Class::Ending => Met::Lost { reason: 2 },
+        Class::Illegal => Met::Lost { reason: 2 },
+    }
+}
+
+// A block's values into the room, from 0.
+fn put_place(mode: u8, met: Met, words: &[u16], room: &mut [u16])
+    requires { ⌜ length (now words) ≤ length (now room) ⌝ }
+    ensures { λ _. ⌜ now (room .exit) ≡ placeRoom met (map (valueOf mode) (now (words .entry))) (now (room .entry)) ⌝ }
+{
+    match met {
+        Met::Nothing => {}
+        Met::Whole { kind: _, length: _ } => {
+            let n = words.len();
+            runs::copy_values(mode, words, &mut room[..n]);
+        }
+        Met::Lost { reason: _ } => {}
+    }
+}
+
+// The walk over places of that size, as long as a whole one is left. It counts no places, so that no call divides.
+fn walk_all(mode: u8, phase: Phase, size: usize, words: &[u16], room: &mut [u16]) -> Walked
+    requires { ⌜ (1 ≤ size) × (size - 1 ≤ length (now room)) ⌝ }
+    ensures { λ r. ⌜ leaves r (now (room .exit))
+        ≡ walkPlaces mode phase (placesIn size (length (now (words .entry)) / size) (now (words .entry))) (now (room .entry)) ⌝ }
+{
+    let mut i = 0;
+    while size <= words.len() - i {
+        let e = i + size;
+        let met = met_at(words[i], size - 1);
+        if !walk::is_nothing(met) {
+            put_place(mode, met, &words[i + 1..e], room);
+            return Walked {
+                phase: phase,
+                met: met,
+                taken: e,
+            };
+        }
+        i = e;
+    }
+    Walked {
+        phase: phase,
+        met: Met::Nothing,
+        taken: i,
+    }
+}
+
+// The same walk. The place in front is asked before the loop, because most calls end with it.
+fn walk_places(mode: u8, phase: Phase, size: usize, words: &[u16], room: &mut [u16]) -> Walked
+    requires { ⌜ (1 ≤ size) × (size - 1 ≤ length (now room)) ⌝ }
+    ensures { λ r. ⌜ leaves r (now (room .exit))
+        ≡ walkPlaces mode phase (placesIn size (length (now (words .entry)) / size) (now (words .entry))) (now (room .entry)) ⌝ }
+{
+    if words.len() < size {
+        return walk_all(mode, phase, size, words, room);
+    }
+    let met = met_at(words[0], size - 1);
+    if walk::is_nothing(met) {
+        return walk_all(mode, phase, size, words, room);
+    }
+    put_place(mode, met, &words[1..size], room);
+    Walked {
+        phase: phase,
+        met: met,
+        taken: size,
+    }
+}
+
+// The walk over places of that size, for any phase, size, words and room. Words behind the last whole place are not looked at.
+pub fn walk_fixed(mode: u8, phase: Phase, size: usize, words: &[u16], room: &mut [u16]) -> Walked
+    ensures { λ r. ⌜ leaves r (now (room .exit)) ≡ walkFixed mode phase size (now (words .entry)) (now (room .entry)) ⌝ }
+{
+    if (size == 0) | (room.len() < lists::less(size, 1)) {
+        return Walked {
+            phase: phase,
+            met: Met::Nothing,
+            taken: 0,
+        };
+    }
+    walk_places(mode, phase, size, words, room)
+}

@@ -1,0 +1,123 @@
+// Runs: words that a phase takes with no report, taken at once. Where a run ends is found first, and its values are copied in a loop
+// of their own.
+use crate::phase::Phase;
+use words::class;
+use words::forms;
+ghost use mathlib.Core.Path.{_≡_};
+ghost use mathlib.Core.List.{map};
+ghost use lib.ListN.{length};
+ghost use Rattle.words.specs.Modes.{valueOf};
+ghost use Rattle.machine.specs.declared.phase.Phase.the-variants.{Data};
+ghost use Rattle.machine.specs.Runs.{runOf, endOf, takenBy, ranPhase, ranRoom};
+
+// A run taken: the phase behind it, and how many words it has.
+pub(crate) struct Ran {
+    pub(crate) phase: Phase,
+    pub(crate) taken: usize,
+}
+
+// How many words stand before the first 309h or 30Ah.
+fn run_of(words: &[u16]) -> usize
+    ensures { λ r. ⌜ r ≡ runOf (now (words .entry)) ⌝ }
+{
+    let mut i = 0;
+    while i < words.len() {
+        if class::is_code(words[i]) {
+            return i;
+        }
+        i += 1;
+    }
+    i
+}
+
+// How many data words a block may have: up to the count, if it is stated, and to the room's end.
+fn end_of(room: usize, n: usize) -> usize
+    ensures { λ r. ⌜ r ≡ endOf room n ⌝ }
+{
+    if n == 0 {
+        return room;
+    }
+    lists::at_most(n, room)
+}
+
+// The values of words, into a part of the room of their length.
+pub(crate) fn copy_values(mode: u8, words: &[u16], out: &mut [u16])
+    requires { ⌜ length (now out) ≡ length (now words) ⌝ }
+    ensures { λ _. ⌜ now (out .exit) ≡ map (valueOf mode) (now (words .entry)) ⌝ }
+{
+    let mut i = 0;
+    while i < words.len() {
+        out[i] = forms::value_of(mode, words[i]);
+        i += 1;
+    }
+}
+
+// A run of data words, as many as there is space for: how many were taken.
+fn collect_run(mode: u8, kind: u8, n: usize, m: usize, words: &[u16], room: &mut [u16]) -> usize
+    ensures { λ r. ⌜ (r ≡ takenBy (Data kind n m) (length (now (room .entry))) (now (words .entry)))
+        × (now (room .exit) ≡ ranRoom mode (Data kind n m) (now (words .entry)) r (now (room .entry))) ⌝ }
+{
+    let space = lists::less(end_of(room.len(), n), m);
+    let most = lists::at_most(words.len(), space);
+    let k = run_of(&words[..most]);
+    if k == 0 {
+        return 0;
+    }
+    let e = m + k;
+    copy_values(mode, &words[..k], &mut room[m..e]);
+    k
+}
+
+// A phase that takes no run.
+fn none_taken(phase: Phase) -> Ran
+    ensures { λ r. ⌜ (r .phase ≡ phase) × (r .taken ≡ 0) ⌝ }
+{
+    Ran {
+        phase: phase,
+        taken: 0,
+    }
+}
+
+// A run of words that the phase takes with no report.
+pub(crate) fn take_run(mode: u8, phase: Phase, words: &[u16], room: &mut [u16]) -> Ran
+    ensures { λ r. ⌜ (r .taken ≡ takenBy phase (length (now (room .entry))) (now (words .entry)))
+        × (r .phase ≡ ranPhase phase (r .taken))
+        × (now (room .exit) ≡ ranRoom mode phase (now (words .entry)) (r .taken) (now (room .entry))) ⌝ }
+{
+    match phase {
+        Phase::Idle => Ran {
+            phase: phase,
+            taken: run_of(words),
+        },
+        Phase::Data {
+            kind,
+            announced,
+            collected,
+        } => {
+            let k = collect_run(mode, kind, announced, collected, words, room);
+            let next = Phase::Data {
+                kind: kind,
+                announced: announced,
+                collected: collected + k,
+            };
+            Ran {
+                phase: next,
+                taken: k,
+            }
+        }
+        Phase::Kind => none_taken(phase),
+        Phase::First { kind: _ } => none_taken(phase),
+        Phase::Second { kind: _, b0: _ } => none_taken(phase),
+        Phase::Third {
+            kind: _,
+            b0: _,
+            b1: _,
+        } => none_taken(phase),
+        Phase::Fourth {
+            kind: _,
+            b0: _,
+            b1: _,
+            b2: _,
+        } => none_taken(phase),
+    }
+}

@@ -1,0 +1,49 @@
+-- The jumps of 01 at work, in one checked list with one claim.
+-- Assumes nothing.
+use mathlib.Core.Bool.{Bool, true, _&&_}
+use mathlib.Core.List.{List, [], _∷_}
+use Prim.Native.Nat.{ℕ, suc}
+use lib.Dec.{T}
+use lib.IntN.{pos, negsuc}
+use Rattle.lists.specs.Tests.{pick}
+use Rattle.lists.specs.Lists.{same}
+use Rattle.course.specs.declared.Last.the-variants.{Unknown, Number}
+use Rattle.course.specs.Course.{nextNumber}
+use Rattle.reader.specs.declared.jump.Jump.{Jump}
+use Rattle.reader.specs.declared.jump.Jump.the-variants.{Unknown as NotKnown, Known}
+use Rattle.reader.specs.Jump.{folded, jumpFrom}
+
+-- a jump: 0 and how far ahead, 1 and how far behind, nothing where it is unknown
+jumped : Jump → List ℕ
+jumped NotKnown = []
+jumped (Known (pos n)) = 0 ∷ n ∷ []
+jumped (Known (negsuc n)) = 1 ∷ suc n ∷ []
+
+-- what the definitions give, and what 01 has
+pub record Case : Type 0 where
+  pub given : List ℕ
+  pub wanted : List ℕ
+
+abbrev case : List ℕ → List ℕ → Case
+case g w = record { given = g; wanted = w }
+
+pub hold : List Case → Bool
+hold [] = true
+hold (c ∷ cs) = same (c .given) (c .wanted) && hold cs
+
+-- the number after N is 1; half a frame is the most either way
+pub jumps : List Case
+jumps =
+    case (jumped (jumpFrom 525 (Number 525) 1)) (0 ∷ 0 ∷ [])
+    ∷ case (jumped (jumpFrom 525 (Number 525) 525)) (1 ∷ 1 ∷ [])
+    ∷ case (jumped (jumpFrom 525 (Number 20) 21)) (0 ∷ 0 ∷ [])
+    ∷ case (jumped (jumpFrom 525 (Number 525) 263)) (0 ∷ 262 ∷ [])
+    ∷ case (jumped (jumpFrom 525 (Number 525) 264)) (1 ∷ 262 ∷ [])
+    ∷ case (jumped (jumpFrom 625 (Number 625) 313)) (0 ∷ 312 ∷ [])
+    ∷ case (jumped (jumpFrom 625 (Number 625) 314)) (1 ∷ 312 ∷ [])
+    ∷ case (jumped (jumpFrom 525 Unknown 1)) []
+    ∷ []
+
+pub they-hold : T (hold jumps)
+unfolding hold jumps jumped nextNumber folded pick
+they-hold = tt

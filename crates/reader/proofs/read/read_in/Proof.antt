@@ -1,0 +1,70 @@
+-- `reader::read::read_in` meets its contract. Assumes nothing.
+use mathlib.Core.Path.{sym, ap, _∙_}
+use native.Mathlib.Omega.{arith}
+use Rattle.course.specs.declared.Place.{Place}
+use Rattle.reader.specs.declared.state.Told.{Told}
+use Rattle.reader.specs.Reading.{call, readFrom}
+use Rattle.reader.proofs.ReadLaws.{own-capacity, read-refused, read-goes}
+use borrow.Author.Needs.{needs}
+use Rattle.reader.proofs.read.read_in.Statement.{statement}
+use Rattle.reader.proofs.read.read_in.Tie as tie
+
+ask-requires : tie.Need-ask-requires
+ask-requires c κs = search needs
+
+returns : tie.Need-returns
+returns c =
+    let g = c .before .before .before .before .before .args in
+    read-refused (g .capacity) (g .st) (g .line .now) (g .room .now) _ (c .before .before .ask .ensures .0) (c .if1 .taken)
+
+enum-told : tie.Need-enum-told
+enum-told c = search needs
+
+start-requires : tie.Need-start-requires
+start-requires c κs = search needs
+
+enum-known-place : tie.Need-enum-known-place
+enum-known-place c = search needs
+
+read-on-requires : tie.Need-read-on-requires
+read-on-requires c κs =
+    let f = c .before .before .before .before in
+    let s = f .before .before .before .before .before in
+    let g = s .args in
+    let found = f .before .before .ask .ensures .1 (f .if1 .left) in
+    let own = own-capacity (g .capacity) (g .st) (g .line .now) (g .room .now) (sym (f .before .before .ask .ensures .0) ∙ f .if1 .left) in
+    (c .before .before .place .given .1, own .1, omega (arith, own .0, s .pre), found .0, found .1)
+
+returns-2 : tie.Need-returns-2
+returns-2 c =
+    let f = c .before .before .before in
+    let g = f .before .before .before .before .before .args in
+    ap (λ (t : Told). call t (g .room .now)) (c .start .ensures)
+    ∙ ap (λ (p : Place). readFrom p (g .st) (g .line .now) (g .room .now)) (sym (c .before .enum-told .given .1))
+    ∙ read-goes (g .capacity) (g .st) (g .line .now) (g .room .now) _ (f .before .before .ask .ensures .0) (f .if1 .left)
+
+same-length : tie.Need-same-length
+same-length c = search needs
+
+returns-3 : tie.Need-returns-3
+returns-3 c =
+    let o = c .before .before in
+    let f = o .before .before .before .before .before in
+    let g = f .before .before .before .before .before .args in
+    o .read-on .ensures
+    ∙ ap (λ (p : Place). readFrom p (g .st) (g .line .now) (g .room .now)) (sym (o .before .before .before .place .given .1))
+    ∙ read-goes (g .capacity) (g .st) (g .line .now) (g .room .now) _ (f .before .before .ask .ensures .0) (f .if1 .left)
+
+pub read-in-spec : {M : Type 1} → statement M
+read-in-spec =
+    tie.close
+    (tie.spec
+    ask-requires
+    returns
+    enum-told
+    start-requires
+    enum-known-place
+    read-on-requires
+    returns-2
+    same-length
+    returns-3)
