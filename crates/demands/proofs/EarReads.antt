@@ -13,7 +13,7 @@ use Rattle.line.specs.Check.{fits, lineFault}
 use Rattle.course.specs.declared.Place.the-variants.{Shut}
 use Rattle.reader.specs.declared.state.Reader.{Reader}
 use Rattle.reader.specs.State.{capacity, impossible, fresh}
-use Rattle.reader.specs.Reading.{readFault}
+use Rattle.reader.specs.Reading.{readFault, readFaultIn}
 use Rattle.reader.proofs.AtCapacity.{fresh-possible, unfaulted}
 use Rattle.demands.specs.Hearing.{Heard, Lends, ReadsTo, done, next, Reads}
 use Rattle.demands.proofs.Ear.{Ear, Input, unfit, heardOfInput, earAfter, heardAlong, earAlong, inputBy, inputOf, inputsOf}
@@ -61,7 +61,7 @@ module _ (st : Reader) (line room : List ℕ) (hs : List Heard) (st′ : Reader)
 
   -- any other is answered with 1
   unfit-steps : fits (st .system) (st .mode) line ≡ false → StepsTo unfit
-  unfolding readFault
+  unfolding readFaultIn
   unfit-steps e =
       let x = leaves-line st line room hs st′ room′ 0 one lent in
       record {
