@@ -5,7 +5,7 @@ import sys
 from answers import answer
 from reader import IDLE, Reader, said
 from states import COUNT, HEADING, READER, SETTINGS, WRITER, of_phase, to_numbers, to_reader, to_writer
-from words import VARIABLE, by_python, byte_form, checksum, crc_of, crc_words, header, made, settings_by, word_of
+from words import VARIABLE, by_perl, by_python, byte_form, checksum, crc_of, crc_words, header, made, settings_by, word_of
 from writer import DONE, Writer
 
 BUFFER = 2305  # words of the line's buffer
@@ -240,3 +240,10 @@ def played(scope, text):
         if not step.startswith("#"):
             play.step(step)
     return play
+
+
+def texts(rows):
+    """The rows, with their registers computed."""
+    lists = list(dict.fromkeys(x.words for row in rows for x in row if isinstance(x, Register)))
+    registers = dict(zip(lists, by_perl(lists), strict=True))
+    return [" ".join(str(registers[x.words] if isinstance(x, Register) else x) for x in row) for row in rows]

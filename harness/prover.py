@@ -146,9 +146,8 @@ SHAPE = r"has no `Need-|that can be named from here|expected type `tie\.Need|has
 
 
 def shows_nothing(error):
-    """No fact is missing: the proof's text no longer fits the code, or there is no error."""
-    said = "\n".join(error)
-    return re.search(FACT, said) is None or re.search(SHAPE, said) is not None
+    """No fact is missing: the first line says that the proof's text no longer fits the code, or there is no error. Advice may follow it."""
+    return re.search(FACT, "\n".join(error)) is None or re.search(SHAPE, error[0]) is not None
 
 
 def short(error):
