@@ -1,8 +1,8 @@
 """A book of steps, for the cases in script.py, lines.py, courses.py and put.py."""
-from states import HEADING, SETTINGS, WRITER
+from states import BUFFER, HEADING, SETTINGS, WRITER
 from words import VARIABLE, block_words, byte_form, settings
 
-ROOM, BUFFER = 16384, 2305  # words
+ROOM = 16384
 TO, SOURCE = 11, 12  # the seeds of the addresses
 
 

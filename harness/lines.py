@@ -1,5 +1,5 @@
 """Cases of lists, headers and the line check."""
-from book import BUFFER
+from states import BUFFER
 from words import FILLER, VARIABLE, byte_form, checksum, crc_of, made, opened_line, settings
 
 SAME, ANY, TEN_BITS, BYTE_FORM, DATA_FORM = 0, 2, 3, 8, 9  # kinds of words, as in crates/heard/src/made.rt

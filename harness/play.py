@@ -4,11 +4,10 @@ import sys
 
 from answers import answer
 from reader import IDLE, Reader, said
-from states import COUNT, HEADING, READER, SETTINGS, WRITER, of_phase, to_numbers, to_reader, to_writer
+from states import BUFFER, COUNT, HEADING, READER, SETTINGS, WRITER, of_phase, to_numbers, to_reader, to_writer
 from words import VARIABLE, by_python, byte_form, checksum, crc_of, crc_words, header, made, settings_by, word_of
 from writer import DONE, Writer
 
-BUFFER = 2305  # words of the line's buffer
 STEPS = {"new", "open", "close", "words", "index", "data", "mix", "read", "view", "last", "at", "phase", "settings"}
 STEPS |= {"Put", "Tell", "Impossible", "Make", "Room", "Open", "Add", "Close", "Words", "Sum", "Header", "Line"}
 
