@@ -1,10 +1,9 @@
 """A book of steps, for the cases in script.py, lines.py, courses.py and put.py."""
-from states import HEADING, SETTINGS, WRITER
+from states import BUFFER, HEADING, SETTINGS, WRITER
 from words import VARIABLE, block_words, byte_form, settings
 
 ROOM = 16384
 TO, SOURCE = 11, 12  # the seeds of the addresses
-NONE_CHANGED = 99999  # no value has this place
 
 
 class Book:
@@ -69,7 +68,7 @@ class Book:
         self.system, self.mode = system, mode
         self.length = length or self.scope.systems[system][0]
         self.step("new", system, mode)
-        self.step("Make", 0, 2305, 0, 0)
+        self.step("Make", 0, BUFFER, 0, 0)
         self.step("Tell", WRITER)
 
     def head(self, values):
@@ -86,8 +85,12 @@ class Book:
         """With addresses from a seed; F is its B1, V its B2."""
         self.begin(number, settings(code, aai, block, flag, seed)[:-1] + [reserved], seed >> 1 & 1, seed >> 2 & 1)
 
-    def add(self, kind, count, seed, place=NONE_CHANGED, value=0):
-        self.step("Add", self.length, kind, count, seed, place, value)
+    def add(self, kind, count, seed, place=None, value=0):
+        """A block of values made from a seed, with one of them changed, or none."""
+        self.step("Room", 0, count, 28 if self.mode == 8 else 29, seed)
+        if place is not None:
+            self.step("Room", place, 1, 0, value)
+        self.step("Add", self.length, kind, count)
 
     def end(self):
         self.step("Close", self.length)

@@ -2,7 +2,7 @@
 import itertools
 
 from courses import ENDS
-from lines import BYTE_FORM, DATA_FORM, FILLER
+from lines import BYTE_FORM, DATA_FORM, SAME
 from words import VARIABLE
 
 # Rows of each name, and events of each kind in each mode
@@ -15,7 +15,7 @@ EVENTS |= {f"drop {k}": 4 for k in range(1, 7)} | {f"refused {k}{how}": 1 for k 
 ANSWERS = {"opened": (0, 1, 2, *range(9, 15), 20), "added": (0, 100, 1, 2, 17, 18, 19, 20), "closed": (0, 1, 2, 20)}
 
 # Lists of a kind and a length, and how many
-LISTS = {(FILLER, 1438): 1, (FILLER, 1918): 1, (BYTE_FORM, 5): 6, (BYTE_FORM, 40): 6, (DATA_FORM, 1438): 6, (DATA_FORM, 1918): 6}
+LISTS = {(SAME, 1438): 1, (SAME, 1918): 1, (BYTE_FORM, 5): 6, (BYTE_FORM, 40): 6, (DATA_FORM, 1438): 6, (DATA_FORM, 1918): 6}
 
 
 def reader(scope):

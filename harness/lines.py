@@ -1,8 +1,8 @@
 """Cases of lists, headers and the line check."""
-from words import VARIABLE, byte_form, checksum, crc_of, made, opened_line, settings
+from states import BUFFER
+from words import FILLER, VARIABLE, byte_form, checksum, crc_of, made, opened_line, settings
 
-BUFFER = 2305
-ZERO, FILLER, ANY, TEN_BITS, BYTE_FORM, DATA_FORM = 0, 1, 2, 3, 8, 9  # kinds of words, as in crates/heard/src/made.rt
+SAME, ANY, TEN_BITS, BYTE_FORM, DATA_FORM = 0, 2, 3, 8, 9  # kinds of words, as in crates/heard/src/made.rt
 
 
 # The CRC and the checksum
@@ -15,8 +15,8 @@ def a_list(book, kind, count, seed):
 
 def lists(book):
     book.note("CRC and checksum of lists")
-    a_list(book, FILLER, 1438, 0)
-    a_list(book, FILLER, 1918, 0)
+    a_list(book, SAME, 1438, FILLER)
+    a_list(book, SAME, 1918, FILLER)
     # as long as what the CRCs of a line cover
     for kind, count in (BYTE_FORM, 5), (BYTE_FORM, 40), (DATA_FORM, 5), (DATA_FORM, 40), (DATA_FORM, 1438), (DATA_FORM, 1918), (TEN_BITS, 1918), (ANY, 1438):
         for k in range(6):
@@ -73,7 +73,7 @@ FITS += [(2, 9, 2288), (2, 9, 2304), (3, 9, 2304), (3, 9, 2305), (3, 0, 2304), (
 
 def fits(book):
     book.note("the check of words that are 0: what fits a system and a mode, and what nearly does")
-    book.step("Make", 0, BUFFER, ZERO, 0)
+    book.step("Make", 0, BUFFER, SAME, 0)
     for system, mode, length in FITS:
         book.step("Line", length, system, mode)
 

@@ -4,13 +4,12 @@ import sys
 
 from answers import answer
 from reader import IDLE, Reader, said
-from states import COUNT, HEADING, READER, SETTINGS, WRITER, of_phase, to_numbers, to_reader, to_writer
+from states import BUFFER, COUNT, HEADING, READER, SETTINGS, WRITER, of_phase, to_numbers, to_reader, to_writer
 from words import VARIABLE, by_perl, by_python, byte_form, checksum, crc_of, crc_words, header, made, settings_by, word_of
 from writer import DONE, Writer
 
-BUFFER = 2305  # words of the line's buffer
 STEPS = {"new", "open", "close", "words", "index", "data", "mix", "read", "view", "last", "at", "phase", "settings"}
-STEPS |= {"Put", "Tell", "Impossible", "Make", "Open", "Add", "Close", "Words", "Sum", "Header", "Line"}
+STEPS |= {"Put", "Tell", "Impossible", "Make", "Room", "Open", "Add", "Close", "Words", "Sum", "Header", "Line"}
 
 
 class Register:
@@ -31,7 +30,7 @@ def mixed(mode, u):
 
 def made_words(kind, count, seed):
     """Words of a kind: the list in crates/heard/src/made.rt, written again."""
-    make = {0: lambda u: 0, 1: lambda u: 0x200, 2: lambda u: u, 3: lambda u: u & 0x3FF, 28: lambda u: u & 0xFF, 29: lambda u: u & 0x1FF}
+    make = {0: lambda u: seed, 2: lambda u: u, 3: lambda u: u & 0x3FF, 28: lambda u: u & 0xFF, 29: lambda u: u & 0x1FF}
     for mode in 8, 9:
         make[mode] = lambda u, mode=mode: word_of(mode, u)
         make[mode + 10] = lambda u, mode=mode: mixed(mode, u)
@@ -145,12 +144,12 @@ class Play:
     def big_close(self, length):
         self.tell_call("closed", *self.lent(length, Writer.close))
 
-    def big_add(self, length, kind, count, seed, place, value):
-        mode = self.states[WRITER][1]
-        values = made_words(28 if mode == 8 else 29, count, seed)
-        values[place : place + 1] = [value] * (place < count)
+    def big_room(self, index, count, kind, seed):
+        self.room[index : index + count] = made_words(kind, count, seed)
+
+    def big_add(self, length, kind, count):
         begun = self.states[WRITER][6]
-        given, register = self.lent(length, lambda w, line: w.add(kind, values, line))
+        given, register = self.lent(length, lambda w, line: w.add(kind, self.room[:count], line))
         self.tell_call("added", given, register)
         if given == DONE:
             self.see_end(count, begun)

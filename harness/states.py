@@ -2,7 +2,7 @@
 from reader import IDLE, TYPE, Reader
 from writer import Writer
 
-COUNT = 52
+COUNT, BUFFER = 52, 2305  # numbers of a state, words of the line's buffer
 SETTINGS = 11  # where the settings begin
 READER, WRITER, HEADING = range(3)
 

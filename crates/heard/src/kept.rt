@@ -16,13 +16,6 @@ fn numbers_of_last(last: Last) -> [u64; 2] {
     }
 }
 
-fn numbers_of_place(place: Place) -> [u64; 2] {
-    match place {
-        Place::Shut => [0, 0],
-        Place::At(q) => [1, q as u64],
-    }
-}
-
 fn numbers_of_phase(phase: Phase) -> [u64; 5] {
     match phase {
         Phase::Idle => [0, 0, 0, 0, 0],
@@ -77,15 +70,15 @@ fn keep_numbers(
     system: u8,
     mode: u8,
     last: [u64; 2],
-    place: [u64; 2],
+    place: Place,
     five: [u64; 5],
 ) {
     s[0] = system as u64;
     s[1] = mode as u64;
     s[2] = last[0];
     s[3] = last[1];
-    s[4] = place[0];
-    s[5] = place[1];
+    s[4] = course::is_at(place) as u64;
+    s[5] = course::place_of(place) as u64;
     s[6] = five[0];
     s[7] = five[1];
     s[8] = five[2];
@@ -103,7 +96,7 @@ pub(crate) fn keep_reader(s: &mut [u64; 52], r: Reader) {
         r.system,
         r.mode,
         numbers_of_last(last),
-        numbers_of_place(place),
+        place,
         numbers_of_phase(phase),
     );
     keep_settings(s, settings);
@@ -119,7 +112,7 @@ pub(crate) fn keep_writer(s: &mut [u64; 52], w: Writer) {
         w.system,
         w.mode,
         numbers_of_last(last),
-        numbers_of_place(place),
+        place,
         numbers_of_rest(rest),
     );
     keep_settings(s, settings);

@@ -1,17 +1,10 @@
 // Steps that lay words into the part of the line that they are lent, and steps that put numbers into a state or tell them.
 use crate::lent;
 use crate::made;
-use crate::shown;
+use crate::rows;
 use crate::states;
 use crate::steps;
 use crate::steps::Step;
-
-// One word at an index.
-pub(crate) fn put(out: &mut [u16], i: usize, w: u16) {
-    if i < out.len() {
-        out[i] = w;
-    }
-}
 
 // The numbers of a step from its second on, as words.
 fn words(out: &mut [u16], ns: &[u64]) {
@@ -46,18 +39,32 @@ fn put_from(s: &mut [u64; 52], spaces: usize, ns: &[u64]) {
     }
 }
 
-// `Put WHICH FROM NUMBER ..`: numbers of a state; or `Tell WHICH`.
+// `Put WHICH FROM NUMBER ..`: numbers of a state; `Tell WHICH`, row `state NUMBER ..`: all of them.
 pub(crate) fn put_or_tell(step: Step, ns: &[u64], s: &mut [u64; 52]) {
-    if step.name == b'T' {
-        return shown::state(s);
+    if step.name == b'P' {
+        return put_from(s, step.spaces, ns);
     }
-    put_from(s, step.spaces, ns);
+    rows::say(b"state");
+    rows::put_from(s, 0, 52);
+    rows::say(b"\n");
 }
 
-// The settings of a state: its addresses from two seeds, of the reserved bytes the last.
-pub(crate) fn put_settings(s: &mut [u64; 52], reserved: u64, to: u64, source: u64) {
-    made::address(s, 15, to);
-    made::address(s, 31, source);
+// The settings of a state: the addresses from two seeds, of the reserved bytes the last.
+pub(crate) fn put_settings(
+    s: &mut [u64; 52],
+    code: u64,
+    aai: u64,
+    block: u64,
+    flag: u64,
+    reserved: u64,
+    ns: &[u64],
+) {
+    s[11] = code;
+    s[12] = aai;
+    s[13] = block;
+    s[14] = flag;
+    made::address(s, 15, steps::at(ns, 5));
+    made::address(s, 31, steps::at(ns, 6));
     s[47] = 0;
     s[48] = 0;
     s[49] = 0;
@@ -65,42 +72,43 @@ pub(crate) fn put_settings(s: &mut [u64; 52], reserved: u64, to: u64, source: u6
     s[51] = reserved;
 }
 
-// `settings CODE AAI BLOCK FLAG RESERVED DESTINATION SOURCE`
-fn settings(s: &mut [u64; 52], ns: &[u64]) {
-    s[11] = steps::at(ns, 0);
-    s[12] = steps::at(ns, 1);
-    s[13] = steps::at(ns, 2);
-    s[14] = steps::at(ns, 3);
-    put_settings(s, steps::at(ns, 4), steps::at(ns, 5), steps::at(ns, 6));
-}
-
 // `phase NUMBER TYPE`, with announced and collected for data. Count bytes are 1, 2 and 3.
-fn phase(s: &mut [u64; 52], ns: &[u64]) {
-    s[6] = steps::at(ns, 0);
+fn phase(s: &mut [u64; 52], number: u64, ns: &[u64]) {
+    s[6] = number;
     s[7] = steps::at(ns, 1);
-    s[8] = 1;
-    s[9] = 2;
     s[10] = 3;
-    if 5 < s[6] {
+    if 5 < number {
         s[8] = steps::at(ns, 2);
         s[9] = steps::at(ns, 3);
+        return;
     }
+    s[8] = 1;
+    s[9] = 2;
 }
 
-// The reader's part put into a value: `last KNOWN NUMBER`, `at KNOWN PLACE`, `phase`, `settings`.
+// The reader's part put into a value: `last KNOWN NUMBER`, `at KNOWN PLACE`, `phase`,
+// `settings CODE AAI BLOCK FLAG RESERVED DESTINATION SOURCE`.
 pub(crate) fn put_reader(name: u8, ns: &[u64], rd: &mut [u64; 52]) {
-    let first = steps::at(ns, 0);
-    let second = steps::at(ns, 1);
+    let n0 = steps::at(ns, 0);
+    let n1 = steps::at(ns, 1);
     match name {
         b'l' => {
-            rd[2] = first;
-            rd[3] = second;
+            rd[2] = n0;
+            rd[3] = n1;
         }
         b'a' => {
-            rd[4] = first;
-            rd[5] = second;
+            rd[4] = n0;
+            rd[5] = n1;
         }
-        b'p' => phase(rd, ns),
-        _ => settings(rd, ns),
+        b'p' => phase(rd, n0, ns),
+        _ => put_settings(
+            rd,
+            n0,
+            n1,
+            steps::at(ns, 2),
+            steps::at(ns, 3),
+            steps::at(ns, 4),
+            ns,
+        ),
     }
 }

@@ -2,6 +2,7 @@
 use crate::steps;
 use crate::steps::Step;
 use line::systems;
+use std::num;
 ghost use Prim.Native.Nat.{_≤_};
 
 // A number of words that a buffer of that length has.
@@ -14,14 +15,14 @@ pub(crate) fn within(n: usize, length: usize) -> usize
     length
 }
 
-// A part of the line's buffer, from an index to before another.
+// A part of a buffer, from an index to before another.
 pub struct Part {
     pub from: usize,
     pub to: usize,
 }
 
 // As many words from a place behind an index on; what would stand beyond the buffer is left out.
-fn cut(length: usize, index: usize, place: u64, count: u64) -> Part
+pub(crate) fn cut(length: usize, index: usize, place: u64, count: u64) -> Part
     ensures { λ r. ⌜ (r .from ≤ r .to) × (r .to ≤ length) ⌝ }
 {
     let a = within(index, length);
@@ -33,30 +34,13 @@ fn cut(length: usize, index: usize, place: u64, count: u64) -> Part
     }
 }
 
-// Where the payload begins.
-fn start_of(system: u8) -> usize {
-    match system {
-        0 => 276,
-        1 => 288,
-        2 => 368,
-        _ => 384,
-    }
-}
-
-// The numbers of a step but its first.
-fn later(spaces: usize) -> u64 {
-    if spaces == 0 {
-        return 0;
-    }
-    (spaces - 1) as u64
-}
-
 // The part of the line that a step is lent: `open` and `close` a whole line; `read`, and the steps that say LENGTH, so many words;
 // `words`, `data` and `mix` words of the payload; the others words from an index on.
 pub(crate) fn part_of(s: Step, system: u8, ns: &[u64], length: usize) -> Part
     ensures { λ r. ⌜ (r .from ≤ r .to) × (r .to ≤ length) ⌝ }
 {
     let known = systems::system_of(system);
+    let start = num::wrapping_sub_usize(known.length, known.payload);
     let first = steps::at(ns, 0);
     let second = steps::at(ns, 1);
     let name = s.name;
@@ -64,8 +48,13 @@ pub(crate) fn part_of(s: Step, system: u8, ns: &[u64], length: usize) -> Part
         b'o' | b'c' => cut(length, 0, 0, known.length as u64),
         b'r' => cut(length, 0, 0, second),
         b'O' | b'A' | b'C' | b'L' => cut(length, 0, 0, first),
-        b'w' => cut(length, start_of(system), first, later(s.spaces)),
-        b'd' | b'm' => cut(length, start_of(system), first, second),
+        b'w' => cut(
+            length,
+            start,
+            first,
+            num::wrapping_sub_u64(s.spaces as u64, 1),
+        ),
+        b'd' | b'm' => cut(length, start, first, second),
         b'i' => cut(length, 0, first, 1),
         _ => cut(length, 0, first, second),
     }

@@ -8,11 +8,6 @@ fn next(x: u64) -> u64 {
     (x % 4294967296 * 1664525 + 1013904223) % 4294967296
 }
 
-// The generator's sixteen upper bits.
-fn upper(x: u64) -> u16 {
-    (x / 65536 % 65536) as u16
-}
-
 // A word from sixteen bits u: of each sixteen, 309h and 30Ah once, 200h eight times, a small byte four times, any twice.
 fn mixed(mode: u8, u: u16) -> u16 {
     match u % 16 {
@@ -24,26 +19,20 @@ fn mixed(mode: u8, u: u16) -> u16 {
     }
 }
 
-// A word of a kind from sixteen bits u: 0 0; 1 200h; 2 u; 3 its low ten bits; 8 and 9 the word of the mode of its low eight (nine)
-// bits; 18 and 19 a mixed word of the mode; 28 and 29 a value of the mode.
-fn word(kind: u64, u: u16) -> u16 {
+// A word of a kind from sixteen bits u: 2 u; 3 its low ten bits; 8 and 9 the word of the mode of its low eight (nine) bits; 18 and 19 a
+// mixed word of the mode; 28 and 29 a value of the mode; of any other kind the seed itself.
+fn word(kind: u64, seed: u64, u: u16) -> u16 {
     match kind {
-        0 => 0,
-        1 => 0x200,
         2 => u,
         3 => u % 1024,
         8 => forms::word_of(8, u),
+        9 => forms::word_of(9, u),
         18 => mixed(8, u),
         19 => mixed(9, u),
         28 => u % 256,
         29 => u % 512,
-        _ => forms::word_of(9, u),
+        _ => (seed % 65536) as u16,
     }
-}
-
-// The kind of a mode's values.
-pub(crate) fn kind_of_values(mode: u64) -> u64 {
-    if mode == 8 { 28 } else { 29 }
 }
 
 // Words of a kind, each from the next of the generator's numbers.
@@ -52,7 +41,7 @@ pub(crate) fn words(out: &mut [u16], kind: u64, seed: u64) {
     let mut i = 0;
     while i < out.len() {
         x = next(x);
-        out[i] = word(kind, upper(x));
+        out[i] = word(kind, seed, (x / 65536 % 65536) as u16);
         i += 1;
     }
 }
@@ -65,7 +54,7 @@ pub(crate) fn address(s: &mut [u64; 52], from: usize, seed: u64)
     let mut i = 0;
     while i < 16 {
         x = next(x);
-        s[from + i] = upper(x) as u64 % 256;
+        s[from + i] = x / 65536 % 256;
         i += 1;
     }
 }

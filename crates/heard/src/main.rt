@@ -20,10 +20,11 @@ fn main() {
     let mut hd = [0u64; 52];
     let mut line = [0u16; 2305];
     let mut room = [0u16; 16385];
-    let mut s = steps::blank();
+    let mut more = true;
     let mut turns = u64::MAX;
-    while turns > 0 && s.more {
-        s = steps::read(STDIN_FILENO, &mut ns);
+    while turns > 0 && more {
+        let s = steps::read(STDIN_FILENO, &mut ns);
+        more = s.more;
         play::play(s, &ns, &mut rd, &mut wr, &mut hd, &mut line, &mut room);
         turns -= 1;
     }

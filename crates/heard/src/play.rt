@@ -1,18 +1,28 @@
 // Which step does what, by the first letter of its name. What a step is, and its row, is said where it is done.
 use crate::calls;
+use crate::kept;
 use crate::lay;
 use crate::lent;
+use crate::made;
+use crate::rows;
 use crate::shown;
 use crate::states;
 use crate::steps;
 use crate::steps::Step;
 
 // Steps of the writer and its heading.
-fn write(name: u8, ns: &[u64], wr: &mut [u64; 52], hd: &mut [u64; 52], part: &mut [u16]) {
+fn write(
+    name: u8,
+    ns: &[u64],
+    wr: &mut [u64; 52],
+    hd: &mut [u64; 52],
+    part: &mut [u16],
+    room: &[u16],
+) {
     match name {
         b'o' => calls::open_fresh(ns, wr, hd, part),
-        b'O' => calls::open(ns, wr, hd, part),
-        b'A' => calls::add(ns, wr, part),
+        b'O' => calls::open(b"opened", steps::at(ns, 1), steps::at(ns, 2), wr, hd, part),
+        b'A' => calls::add(ns, wr, part, room),
         b'c' => calls::close(b"close", wr, part),
         b'C' => calls::close(b"closed", wr, part),
         _ => shown::header(ns, hd),
@@ -28,10 +38,26 @@ fn hear(name: u8, ns: &[u64], rd: &mut [u64; 52], part: &mut [u16], room: &mut [
     }
 }
 
-// Steps that show words.
-fn show(name: u8, ns: &[u64], part: &[u16], room: &[u16]) {
+// `view`, row `room REGISTER`: the register after all 16,385 words of the buffer whose first ones are lent as the room.
+fn view(room: &[u16]) {
+    rows::say(b"room");
+    rows::put_register(room);
+    rows::say(b"\n");
+}
+
+// `Room INDEX COUNT KIND SEED`: words of the room, the kind as in made.rt.
+fn make_room(ns: &[u64], room: &mut [u16]) {
+    let p = lent::cut(room.len(), 0, steps::at(ns, 0), steps::at(ns, 1));
+    let from = p.from;
+    let to = p.to;
+    made::words(&mut room[from..to], steps::at(ns, 2), steps::at(ns, 3));
+}
+
+// Steps of words.
+fn show(name: u8, ns: &[u64], part: &[u16], room: &mut [u16]) {
     match name {
-        b'v' => shown::room(room),
+        b'v' => view(room),
+        b'R' => make_room(ns, room),
         b'W' => shown::words(part),
         b'S' => shown::sums(part),
         _ => shown::checked(ns, part),
@@ -40,8 +66,10 @@ fn show(name: u8, ns: &[u64], part: &[u16], room: &[u16]) {
 
 // `new SYSTEM MODE`: a fresh reader and a fresh writer.
 fn fresh(ns: &[u64], rd: &mut [u64; 52], wr: &mut [u64; 52]) {
-    calls::fresh_reader(steps::at(ns, 0), steps::at(ns, 1), rd);
-    calls::fresh_writer(steps::at(ns, 0), steps::at(ns, 1), wr);
+    let system = states::byte(steps::at(ns, 0));
+    let mode = states::byte(steps::at(ns, 1));
+    kept::keep_reader(rd, reader::state::fresh_reader(system, mode));
+    kept::keep_writer(wr, writer::state::fresh_writer(system, mode));
 }
 
 // Steps that choose a state by its number: 0 the reader's, 1 the writer's, 2 the heading.
@@ -65,8 +93,8 @@ fn act(
 ) {
     let name = s.name;
     match name {
-        b'o' | b'O' | b'A' | b'c' | b'C' | b'H' => write(name, ns, wr, hd, part),
-        b'v' | b'W' | b'S' | b'L' => show(name, ns, part, room),
+        b'o' | b'O' | b'A' | b'c' | b'C' | b'H' => write(name, ns, wr, hd, part, room),
+        b'v' | b'R' | b'W' | b'S' | b'L' => show(name, ns, part, room),
         b'P' | b'T' => choose(s, ns, rd, wr, hd),
         b'I' => shown::impossible(rd, wr),
         b'n' => fresh(ns, rd, wr),

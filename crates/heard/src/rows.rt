@@ -1,4 +1,4 @@
-// What a row is written with: words, numbers, its end.
+// What a row is written with: letters, numbers, registers.
 use crate::steps;
 use words::crc;
 
@@ -44,8 +44,4 @@ pub(crate) fn put_words(s: &[u16]) {
 // The CRC register after words, from all ones.
 pub(crate) fn put_register(s: &[u16]) {
     put(crc::crc_of(262143, s) as u64);
-}
-
-pub(crate) fn end() {
-    say(b"\n");
 }

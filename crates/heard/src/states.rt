@@ -7,7 +7,6 @@
 use course::Last;
 use course::Place;
 use line::settings::Settings;
-use line::systems;
 use machine::phase::Phase;
 use reader::state::Reader;
 use writer::state::Rest;
@@ -22,12 +21,6 @@ pub(crate) fn byte(x: u64) -> u8 {
 
 pub(crate) fn word(x: u64) -> u16 {
     (x % 65536) as u16
-}
-
-// The code of the state's system.
-pub(crate) fn code_of(s: &[u64; 52]) -> u64 {
-    let known = systems::system_of(byte(s[0]));
-    known.code as u64
 }
 
 fn last_of(s: &[u64; 52]) -> Last {

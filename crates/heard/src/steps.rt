@@ -8,14 +8,6 @@ pub struct Step {
     pub spaces: usize,
 }
 
-pub(crate) fn blank() -> Step {
-    Step {
-        more: true,
-        name: 0,
-        spaces: 0,
-    }
-}
-
 // A number of the step. Where it has fewer, what an earlier step left stands there, and no step looks.
 pub(crate) fn at(ns: &[u64], k: usize) -> u64 {
     if k < ns.len() {
@@ -30,12 +22,7 @@ pub(crate) fn set(ns: &mut [u64], k: usize, x: u64) {
     }
 }
 
-// A digit after the digits before it; of ten digits and more the last ten count.
-fn longer(x: u64, digit: u8) -> u64 {
-    x % 1000000000 * 10 + digit as u64
-}
-
-// A byte of a number, after that many spaces.
+// A byte of a number, after that many spaces; of ten digits and more the last ten count.
 fn take_digit(spaces: usize, b: u8, ns: &mut [u64]) {
     if b < 48 {
         return;
@@ -47,7 +34,7 @@ fn take_digit(spaces: usize, b: u8, ns: &mut [u64]) {
         return;
     }
     let k = spaces - 1;
-    let x = longer(at(ns, k), b - 48);
+    let x = at(ns, k) % 1000000000 * 10 + (b - 48) as u64;
     set(ns, k, x);
 }
 
@@ -83,7 +70,11 @@ fn fed(s: Step, b: u8, ns: &mut [u64]) -> Step {
 // Reads a step. At the end of the text no more is to come.
 pub(crate) fn read(fd: i32, ns: &mut [u64]) -> Step {
     let mut one = [0u8; 1];
-    let mut s = blank();
+    let mut s = Step {
+        more: true,
+        name: 0,
+        spaces: 0,
+    };
     let mut turns = u64::MAX;
     while turns > 0 {
         if io::read_full(fd, &mut one) == 0 {

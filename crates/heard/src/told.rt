@@ -41,12 +41,14 @@ fn put_block(kind: u8, length: usize, room: &[u16]) {
     rows::put_register(&room[..n]);
 }
 
-pub(crate) fn put_event(e: Event, room: &[u16]) {
+// An event, and whether a row's calls stop after it.
+pub(crate) fn put_event(e: Event, room: &[u16]) -> bool {
     match e {
         Event::Refused { answer, dropped } => {
             rows::say(b" refused");
             rows::put(answer as u64);
             put_dropped(dropped);
+            true
         }
         Event::Begun {
             number,
@@ -57,31 +59,21 @@ pub(crate) fn put_event(e: Event, room: &[u16]) {
             rows::put(number as u64);
             put_jump(jump);
             put_dropped(dropped);
+            false
         }
-        Event::Block { kind, length } => put_block(kind, length, room),
+        Event::Block { kind, length } => {
+            put_block(kind, length, room);
+            false
+        }
         Event::Drop { reason } => {
             rows::say(b" drop");
             rows::put(reason as u64);
+            false
         }
-        Event::End => rows::say(b" end"),
-    }
-}
-
-// After these events a row's calls stop.
-pub(crate) fn is_last(e: Event) -> bool {
-    match e {
-        Event::Refused {
-            answer: _,
-            dropped: _,
-        } => true,
-        Event::Begun {
-            number: _,
-            jump: _,
-            dropped: _,
-        } => false,
-        Event::Block { kind: _, length: _ } => false,
-        Event::Drop { reason: _ } => false,
-        Event::End => true,
+        Event::End => {
+            rows::say(b" end");
+            true
+        }
     }
 }
 

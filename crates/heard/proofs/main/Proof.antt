@@ -6,13 +6,10 @@ use Rattle.heard.proofs.main.Statement.{statement}
 use Rattle.heard.proofs.main.Tie as tie
 
 abbrev Inv-loop : tie.InvT-loop
-Inv-loop ns₀ rd₀ wr₀ hd₀ line₀ room₀ s₀ turns₀ ns rd wr hd line room s turns = (length ns ≡ 56) × (length line ≡ 2305) × (length room ≡ 16385)
+Inv-loop ns₀ rd₀ wr₀ hd₀ line₀ room₀ more₀ turns₀ ns rd wr hd line room more turns = (length ns ≡ 56) × (length line ≡ 2305) × (length room ≡ 16385)
 
 abbrev μ-loop : tie.MeasureT-loop
-μ-loop ns₀ rd₀ wr₀ hd₀ line₀ room₀ s₀ turns₀ ns rd wr hd line room s turns = turns
-
-blank-requires : tie.Need-blank-requires Inv-loop μ-loop
-blank-requires c κs = search needs
+μ-loop ns₀ rd₀ wr₀ hd₀ line₀ room₀ more₀ turns₀ ns rd wr hd line room more turns = turns
 
 loop-holds : tie.Need-loop-holds Inv-loop μ-loop
 loop-holds c = search needs
@@ -56,7 +53,6 @@ main-spec =
     (tie.spec
     Inv-loop
     μ-loop
-    blank-requires
     loop-holds
     slice-aggregate-read
     read-requires

@@ -33,8 +33,11 @@ calls-requires c κs = search needs
 put-state-requires : tie.Need-put-state-requires
 put-state-requires c κs = search needs
 
-end-requires : tie.Need-end-requires
-end-requires c κs = search needs
+slice-aggregate-say-2 : tie.Need-slice-aggregate-say-2
+slice-aggregate-say-2 c = search needs
+
+say-requires-2 : tie.Need-say-requires-2
+say-requires-2 c κs = search needs
 
 same-length : tie.Need-same-length
 same-length c = search needs
@@ -55,6 +58,7 @@ read-spec =
     slice-aggregate-calls
     calls-requires
     put-state-requires
-    end-requires
+    slice-aggregate-say-2
+    say-requires-2
     same-length
     returns)

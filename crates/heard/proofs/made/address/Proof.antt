@@ -16,12 +16,6 @@ loop-holds c = search needs
 next-requires : tie.Need-next-requires Inv-loop μ-loop
 next-requires c κs = search needs
 
-upper-requires : tie.Need-upper-requires Inv-loop μ-loop
-upper-requires c κs = search needs
-
-cast-s : tie.Need-cast-s Inv-loop μ-loop
-cast-s c = search needs
-
 add-s : tie.Need-add-s Inv-loop μ-loop
 add-s c = search needs
 
@@ -51,8 +45,6 @@ address-spec =
     μ-loop
     loop-holds
     next-requires
-    upper-requires
-    cast-s
     add-s
     mul-s
     element-write-s

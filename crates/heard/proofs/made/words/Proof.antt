@@ -18,8 +18,8 @@ loop-holds c = search needs
 next-requires : tie.Need-next-requires Inv-loop μ-loop
 next-requires c κs = search needs
 
-upper-requires : tie.Need-upper-requires Inv-loop μ-loop
-upper-requires c κs = search needs
+cast-word : tie.Need-cast-word Inv-loop μ-loop
+cast-word c = search needs
 
 word-requires : tie.Need-word-requires Inv-loop μ-loop
 word-requires c κs = search needs
@@ -53,7 +53,7 @@ words-spec =
     μ-loop
     loop-holds
     next-requires
-    upper-requires
+    cast-word
     word-requires
     mul-out
     slice-write-out

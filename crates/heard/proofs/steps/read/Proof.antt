@@ -11,9 +11,6 @@ Inv-loop fd ns₀ one₀ s₀ turns₀ ns one s turns = (length one ≡ 1) × (l
 abbrev μ-loop : tie.MeasureT-loop
 μ-loop fd ns₀ one₀ s₀ turns₀ ns one s turns = turns
 
-blank-requires : tie.Need-blank-requires Inv-loop μ-loop
-blank-requires c κs = search needs
-
 loop-holds : tie.Need-loop-holds Inv-loop μ-loop
 loop-holds c = search needs
 
@@ -65,7 +62,6 @@ read-spec =
     (tie.spec
     Inv-loop
     μ-loop
-    blank-requires
     loop-holds
     slice-aggregate-read-full
     read-full-requires
