@@ -1,7 +1,7 @@
 -- What a word, a walk and a walk over places keep: a possible phase, the room's length; and how many words they take.
 -- Assumes nothing.
 use mathlib.Core.Path.{_≡_, refl, sym, ap, _∙_, subst}
-use mathlib.Core.Bool.{Bool, true, false, _&&_, not}
+use mathlib.Core.Bool.{Bool, true, false, _&&_, _||_, not}
 use mathlib.Core.List.{List, [], _∷_, map}
 use Prim.Native.Nat.{ℕ, zero, suc, _+_, _-_, _*_, _≤_, _<_}
 use native.Mathlib.Nat.{zero-mul, one-mul, suc-mul, mul-le-mul-right}
@@ -9,9 +9,9 @@ use native.Mathlib.Omega.{arith}
 use lib.Dec.{T, eqb, leb, ltb}
 use lib.ListN.{length, getD, take, drop, length-append, length-drop, length-map, length-set}
 use lib.Seq.{length-take-le}
-use borrow.Author.Tests.{le-ltb, leb-false, ltb-false}
+use borrow.Author.Tests.{le-ltb, leb-false, ltb-true, ltb-false}
 use Rattle.lists.specs.Tests.{pick}
-use Rattle.lists.proofs.Tests.{or-false, false-or}
+use Rattle.lists.proofs.Tests.{true-false, or-false, false-or}
 use Rattle.words.specs.Modes.{valueOf}
 use Rattle.words.specs.Class.{classOf}
 use Rattle.words.specs.declared.class.Class.{Class}
@@ -22,46 +22,56 @@ use Rattle.machine.specs.declared.step.Met.{Met}
 use Rattle.machine.specs.declared.step.Met.the-variants.{Nothing, Whole, Lost}
 use Rattle.machine.specs.declared.step.Step.{Step}
 use Rattle.machine.specs.Phases.{misphased}
-use Rattle.machine.specs.Machine.{on, dropped, idleStep, kindStep, countStep, counted, endStep, valueStep, stepBy, stepOf}
+use Rattle.machine.specs.Machine.{on, dropped, idleStep, kindStep, countStep, counted, endStep, valueStep, dataStep, stepBy, stepOf}
 use Rattle.machine.specs.Walk.{Walk, after, past, unless, isNothing, collectedOf, stored, walkOf}
 use Rattle.machine.specs.Places.{placesIn, metAt, placeRoom, walkPlaces}
 
 -- ---- one word
-idle-kept : (room : ℕ) (c : Class) → misphased room (idleStep c .phase) ≡ false
-idle-kept room Byte = refl
-idle-kept room Other = refl
-idle-kept room Separator = refl
-idle-kept room Ending = refl
-idle-kept room Illegal = refl
+-- what a word's step keeps: a possible phase; and a value that is kept has its place in the room
+pub record Steady (room : ℕ) (p : Phase) (s : Step) : Type 0 where
+  pub phased : misphased room p ≡ false → misphased room (s .phase) ≡ false
+  pub inside : s .keeps ≡ true → collectedOf p < room
 
-kind-kept : (room : ℕ) (c : Class) (b : ℕ) → misphased room (kindStep c b .phase) ≡ false
-kind-kept room Byte b = refl
-kind-kept room Other b = refl
-kind-kept room Separator b = refl
-kind-kept room Ending b = refl
-kind-kept room Illegal b = refl
+-- a word that is not kept
+passes : (room : ℕ) (p q : Phase) (met : Met) → misphased room q ≡ false → Steady room p (record { phase = q; met = met; keeps = false })
+passes room p q met e = record { phased = λ h. e; inside = λ h. absurd (true-false (sym h)) }
 
-count-kept : (room : ℕ) (c : Class) (next : Step) → misphased room (next .phase) ≡ false → misphased room (countStep c next .phase) ≡ false
-count-kept room Byte next e = e
-count-kept room Other next e = refl
-count-kept room Separator next e = refl
-count-kept room Ending next e = refl
-count-kept room Illegal next e = refl
+idle-steady : (room : ℕ) (c : Class) → Steady room Idle (idleStep c)
+idle-steady room Byte = passes room Idle _ _ refl
+idle-steady room Other = passes room Idle _ _ refl
+idle-steady room Separator = passes room Idle _ _ refl
+idle-steady room Ending = passes room Idle _ _ refl
+idle-steady room Illegal = passes room Idle _ _ refl
+
+kind-steady : (room : ℕ) (c : Class) (b : ℕ) → Steady room Kind (kindStep c b)
+kind-steady room Byte b = passes room Kind _ _ refl
+kind-steady room Other b = passes room Kind _ _ refl
+kind-steady room Separator b = passes room Kind _ _ refl
+kind-steady room Ending b = passes room Kind _ _ refl
+kind-steady room Illegal b = passes room Kind _ _ refl
+
+count-steady : (room : ℕ) (p : Phase) (c : Class) (next : Step) → Steady room p next → Steady room p (countStep c next)
+count-steady room p Byte next e = e
+count-steady room p Other next e = passes room p _ _ refl
+count-steady room p Separator next e = passes room p _ _ refl
+count-steady room p Ending next e = passes room p _ _ refl
+count-steady room p Illegal next e = passes room p _ _ refl
 
 pub and-none : (a b : Bool) → b ≡ false → (a && b) ≡ false
 and-none true b e = e
 and-none false b e = refl
 
 -- a count that the room has space for, and nothing collected
-counted-by : (room k n : ℕ) (b : Bool) → ltb room n ≡ b → misphased room (pick b (dropped 3) (on (Data k n 0)) .phase) ≡ false
+counted-by : (room : ℕ) (p : Phase) (k n : ℕ) (b : Bool) → ltb room n ≡ b → Steady room p (pick b (dropped 3) (on (Data k n 0)))
 unfolding pick
-counted-by room k n true e = refl
-counted-by room k n false e = false-or e (false-or (le-ltb room 0 (omega arith)) (and-none (not (eqb n 0)) (ltb n 0) (le-ltb n 0 (omega arith))))
+counted-by room p k n true e = passes room p _ _ refl
+counted-by room p k n false e =
+    passes room p _ _ (false-or e (false-or (le-ltb room 0 (omega arith)) (and-none (not (eqb n 0)) (ltb n 0) (le-ltb n 0 (omega arith)))))
 
-end-by : (room k m : ℕ) (b : Bool) → misphased room (pick b (record { phase = Idle; met = Whole k m; keeps = false }) (dropped 4) .phase) ≡ false
+end-by : (room : ℕ) (p : Phase) (k m : ℕ) (b : Bool) → Steady room p (pick b (record { phase = Idle; met = Whole k m; keeps = false }) (dropped 4))
 unfolding pick
-end-by room k m true = refl
-end-by room k m false = refl
+end-by room p k m true = passes room p _ _ refl
+end-by room p k m false = passes room p _ _ refl
 
 -- one value more: it was no value past a met count, nor past the room with no count
 more-by : (n m : ℕ) (z : Bool) → (not z && leb n m) ≡ false → (not z && ltb n (m + 1)) ≡ false
@@ -77,36 +87,41 @@ pub value-small : (room n m bound : ℕ) (z : Bool) → (not z && leb n m) ≡ f
 value-small room n m bound true x y low high = omega (arith, leb-false room m y)
 value-small room n m bound false x y low high = omega (arith, leb-false n m x)
 
-value-by : (room k n m : ℕ) (a b : Bool) → (not (eqb n 0) && leb n m) ≡ a → (eqb n 0 && leb room m) ≡ b → ltb room n ≡ false
-    → misphased room (pick a (dropped 5) (pick b (dropped 6) (record { phase = Data k n (m + 1); met = Nothing; keeps = ltb m room })) .phase) ≡ false
+value-by : (room k n m : ℕ) (a b : Bool) → (not (eqb n 0) && leb n m) ≡ a → (eqb n 0 && leb room m) ≡ b
+    → Steady room (Data k n m) (pick a (dropped 5) (pick b (dropped 6) (record { phase = Data k n (m + 1); met = Nothing; keeps = ltb m room })))
 unfolding pick
-value-by room k n m true b x y e = refl
-value-by room k n m false true x y e = refl
-value-by room k n m false false x y e =
-    let h = value-inside room n m (eqb n 0) x y e in
-    false-or e (false-or (le-ltb room (m + 1) (omega arith)) (more-by n m (eqb n 0) x))
+value-by room k n m true b x y = passes room (Data k n m) _ _ refl
+value-by room k n m false true x y = passes room (Data k n m) _ _ refl
+value-by room k n m false false x y =
+    record {
+      phased = λ e.
+          let free = or-false (ltb room n) (ltb room m || (not (eqb n 0) && ltb n m)) e .0 in
+          let h = value-inside room n m (eqb n 0) x y free in
+          false-or free (false-or (le-ltb room (m + 1) (omega arith)) (more-by n m (eqb n 0) x));
+      inside = ltb-true m room;
+    }
 
-data-kept : (room k n m : ℕ) (c : Class) → misphased room (Data k n m) ≡ false → misphased room (stepBy room (Data k n m) c 0 .phase) ≡ false
+data-steady : (room k n m : ℕ) (c : Class) → Steady room (Data k n m) (dataStep room k n m c)
 unfolding endStep valueStep
-data-kept room k n m Separator e = refl
-data-kept room k n m Ending e = end-by room k m _
-data-kept room k n m Byte e = value-by room k n m _ _ refl refl (or-false (ltb room n) _ e .0)
-data-kept room k n m Other e = value-by room k n m _ _ refl refl (or-false (ltb room n) _ e .0)
-data-kept room k n m Illegal e = value-by room k n m _ _ refl refl (or-false (ltb room n) _ e .0)
+data-steady room k n m Separator = passes room (Data k n m) _ _ refl
+data-steady room k n m Ending = end-by room (Data k n m) k m _
+data-steady room k n m Byte = value-by room k n m _ _ refl refl
+data-steady room k n m Other = value-by room k n m _ _ refl refl
+data-steady room k n m Illegal = value-by room k n m _ _ refl refl
 
-by-class : (room : ℕ) (p : Phase) (c : Class) (b : ℕ) → misphased room p ≡ false → misphased room (stepBy room p c b .phase) ≡ false
+by-class : (room : ℕ) (p : Phase) (c : Class) (b : ℕ) → Steady room p (stepBy room p c b)
 unfolding counted
-by-class room Idle c b e = idle-kept room c
-by-class room Kind c b e = kind-kept room c b
-by-class room (First k) c b e = count-kept room c _ refl
-by-class room (Second k x) c b e = count-kept room c _ refl
-by-class room (Third k x y) c b e = count-kept room c _ refl
-by-class room (Fourth k x y z) c b e = count-kept room c _ (counted-by room k _ _ refl)
-by-class room (Data k n m) c b e = data-kept room k n m c e
+by-class room Idle c b = idle-steady room c
+by-class room Kind c b = kind-steady room c b
+by-class room (First k) c b = count-steady room (First k) c _ (passes room (First k) _ _ refl)
+by-class room (Second k x) c b = count-steady room (Second k x) c _ (passes room (Second k x) _ _ refl)
+by-class room (Third k x y) c b = count-steady room (Third k x y) c _ (passes room (Third k x y) _ _ refl)
+by-class room (Fourth k x y z) c b = count-steady room (Fourth k x y z) c _ (counted-by room (Fourth k x y z) k _ _ refl)
+by-class room (Data k n m) c b = data-steady room k n m c
 
-pub step-possible : (room : ℕ) (p : Phase) (w : ℕ) → misphased room p ≡ false → misphased room (stepOf room p w .phase) ≡ false
+pub step-steady : (room : ℕ) (p : Phase) (w : ℕ) → Steady room p (stepOf room p w)
 unfolding stepOf
-step-possible room p w e = by-class room p (classOf w) _ e
+step-steady room p w = by-class room p (classOf w) _
 
 -- ---- a walk
 -- what holds where it stops and where it goes on holds of it
@@ -136,27 +151,14 @@ walk-kept mode p (w ∷ ws) room =
     let x = walkOf mode (s .phase) ws r in
     let h = walk-kept mode (s .phase) ws r in
     either (s .met) (after (s .phase) (s .met) 1 r) (past 1 x) (Kept p room (suc (length ws)))
-    (record { room-long = same; at-most = omega arith; at-least = λ e. omega arith; phased = step-possible (length room) p w })
+    (record { room-long = same; at-most = omega arith; at-least = λ e. omega arith; phased = step-steady (length room) p w .phased })
     (record {
       room-long = h .room-long ∙ same;
       at-most = omega (arith, h .at-most);
       at-least = λ e. omega arith;
       phased = λ e. subst (λ (k : ℕ). misphased k (x .answer .phase) ≡ false) same
-          (h .phased (subst (λ (k : ℕ). misphased k (s .phase) ≡ false) (sym same) (step-possible (length room) p w e)));
+          (h .phased (subst (λ (k : ℕ). misphased k (s .phase) ≡ false) (sym same) (step-steady (length room) p w .phased e)));
     })
-
-module _ (mode : ℕ) (p : Phase) (ws room : List ℕ) where
-  pub walk-room : length (walkOf mode p ws room .room) ≡ length room
-  walk-room = walk-kept mode p ws room .room-long
-
-  pub walk-taken : walkOf mode p ws room .answer .taken ≤ length ws
-  walk-taken = walk-kept mode p ws room .at-most
-
-  pub walk-some : isNothing (walkOf mode p ws room .answer .met) ≡ false → 1 ≤ walkOf mode p ws room .answer .taken
-  walk-some = walk-kept mode p ws room .at-least
-
-  pub walk-possible : misphased (length room) p ≡ false → misphased (length room) (walkOf mode p ws room .answer .phase) ≡ false
-  walk-possible = walk-kept mode p ws room .phased
 
 -- ---- a walk over places
 laid-long : (met : Met) (vs room : List ℕ) → length vs ≤ length room → length (placeRoom met vs room) ≡ length room
@@ -205,16 +207,9 @@ places-along mode p size (suc n) ws room h =
       room-long = on .room-long;
     })
 
-module _ (mode : ℕ) (p : Phase) (size n : ℕ) (ws room : List ℕ) (fits : n * size ≤ length ws) where
-  pub places-room : size - 1 ≤ length room → length (walkPlaces mode p (placesIn size n ws) room .room) ≡ length room
-  places-room = places-along mode p size n ws room fits .room-long
-
-  pub places-taken : walkPlaces mode p (placesIn size n ws) room .answer .taken ≤ n * size
-  places-taken = let a = places-along mode p size n ws room fits in omega (arith, a .whole, mul-le-mul-right size (a .at-most))
-
-  pub places-some : 1 ≤ size → isNothing (walkPlaces mode p (placesIn size n ws) room .answer .met) ≡ false
-      → 1 ≤ walkPlaces mode p (placesIn size n ws) room .answer .taken
-  places-some one e =
-      let a = places-along mode p size n ws room fits in
-      let m : 1 * size ≤ a .count * size = mul-le-mul-right size (a .at-least e) in
-      omega (arith, a .whole, m, one-mul size)
+pub places-some : (mode : ℕ) (p : Phase) (size n : ℕ) (ws room : List ℕ) → n * size ≤ length ws → 1 ≤ size
+    → isNothing (walkPlaces mode p (placesIn size n ws) room .answer .met) ≡ false → 1 ≤ walkPlaces mode p (placesIn size n ws) room .answer .taken
+places-some mode p size n ws room fits one e =
+    let a = places-along mode p size n ws room fits in
+    let m : 1 * size ≤ a .count * size = mul-le-mul-right size (a .at-least e) in
+    omega (arith, a .whole, m, one-mul size)

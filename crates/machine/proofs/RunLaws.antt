@@ -1,17 +1,17 @@
 -- Laws of runs: a run taken at once is the same walk.
 -- Assumes nothing.
 use mathlib.Core.Path.{_≡_, refl, sym, ap, ap₂, _∙_, subst}
-use mathlib.Core.Bool.{Bool, true, false, _&&_, _||_, not}
+use mathlib.Core.Bool.{Bool, true, false, _&&_, not}
 use mathlib.Core.List.{List, [], _∷_, _++_, map}
-use Prim.Native.Nat.{ℕ, zero, suc, _+_, _-_, _%_, _≤_, _<_, min}
+use Prim.Native.Nat.{ℕ, zero, suc, _+_, _-_, _≤_, _<_, min}
 use native.Mathlib.Nat.{add-zero, add-assoc}
 use native.Mathlib.Numerals.{add-one}
 use native.Mathlib.Omega.{arith}
-use lib.Dec.{T, eqb, leb, ltb}
+use lib.Dec.{T, eqb, leb}
 use lib.ListN.{length, getD, take, drop, set, length-set, length-take, length-drop, drop-of-length-le}
 use lib.Seq.{length-take-le, take-suc-set, drop-set-lt, append-snoc, paste, paste-zero}
 use borrow.Rule.Slice.PartMut.{putMid}
-use borrow.Author.Tests.{lt-leb, lt-ltb, ltb-true}
+use borrow.Author.Tests.{lt-leb, lt-ltb}
 use Rattle.lists.specs.Tests.{pick}
 use Rattle.lists.proofs.Tests.{pick-true, pick-false}
 use Rattle.lists.proofs.Lists.{map-part}
@@ -22,10 +22,10 @@ use Rattle.words.specs.declared.class.Class.{Class}
 use Rattle.words.specs.declared.class.Class.the-variants.{Byte, Other, Separator, Ending, Illegal}
 use Rattle.machine.specs.declared.phase.Phase.{Phase}
 use Rattle.machine.specs.declared.phase.Phase.the-variants.{Idle, Kind, First, Second, Third, Fourth, Data}
-use Rattle.machine.specs.declared.step.Met.the-variants.{Nothing, Whole}
+use Rattle.machine.specs.declared.step.Met.the-variants.{Nothing}
 use Rattle.machine.specs.declared.step.Step.{Step}
-use Rattle.machine.specs.Machine.{on, dropped, idleStep, kindStep, countStep, counted, endStep, valueStep, dataStep, stepOf}
-use Rattle.machine.specs.Walk.{Walk, past, collectedOf, stored, walkOf}
+use Rattle.machine.specs.Machine.{on, idleStep, valueStep, dataStep, stepOf}
+use Rattle.machine.specs.Walk.{Walk, past, stored, walkOf}
 use Rattle.machine.specs.Runs.{runOf, endOf, takenBy, ranPhase, ranRoom}
 use Rattle.machine.proofs.WalkLaws.{past-zero, past-past, word-goes}
 use Rattle.machine.proofs.Kept.{and-none}
@@ -223,73 +223,6 @@ pub data-small : (t n m room : ℕ) (ws : List ℕ) (k bound : ℕ) → k ≡ ta
 data-small t n m room ws k bound e low high =
     let x = run-of-part (min (length ws) (endOf room n - m)) ws in
     omega (arith, e, x .1, end-in-room room n)
-
--- ---- a value that is kept has its place in the room
-count-keeps : (c : Class) (next : Step) → next .keeps ≡ false → countStep c next .keeps ≡ false
-count-keeps Byte next e = e
-count-keeps Other next e = refl
-count-keeps Separator next e = refl
-count-keeps Ending next e = refl
-count-keeps Illegal next e = refl
-
-idle-keeps : (c : Class) → idleStep c .keeps ≡ false
-idle-keeps Byte = refl
-idle-keeps Other = refl
-idle-keeps Separator = refl
-idle-keeps Ending = refl
-idle-keeps Illegal = refl
-
-kind-keeps : (c : Class) (b : ℕ) → kindStep c b .keeps ≡ false
-kind-keeps Byte b = refl
-kind-keeps Other b = refl
-kind-keeps Separator b = refl
-kind-keeps Ending b = refl
-kind-keeps Illegal b = refl
-
-counted-keeps : (room k n : ℕ) → counted room k n .keeps ≡ false
-unfolding counted pick
-counted-keeps room k n = go (ltb room n)
-  where
-    go : (b : Bool) → pick b (dropped 3) (on (Data k n 0)) .keeps ≡ false
-    go true = refl
-    go false = refl
-
-end-keeps : (k n m : ℕ) → endStep k n m .keeps ≡ false
-unfolding endStep pick
-end-keeps k n m = go (eqb n 0 || eqb n m)
-  where
-    go : (b : Bool) → pick b (record { phase = Idle; met = Whole k m; keeps = false }) (dropped 4) .keeps ≡ false
-    go true = refl
-    go false = refl
-
-never : {A : Type 0} → false ≡ true → A
-never e = absurd (subst T (sym e) tt)
-
-value-keeps : (room k n m : ℕ) → valueStep room k n m .keeps ≡ true → m < room
-unfolding valueStep pick
-value-keeps room k n m = go (not (eqb n 0) && leb n m) (eqb n 0 && leb room m)
-  where
-    go : (a b : Bool) → pick a (dropped 5) (pick b (dropped 6) (record { phase = Data k n (m + 1); met = Nothing; keeps = ltb m room })) .keeps ≡ true → m < room
-    go true b e = never e
-    go false true e = never e
-    go false false e = ltb-true m room e
-
-data-keeps : (room k n m : ℕ) (c : Class) → dataStep room k n m c .keeps ≡ true → m < room
-data-keeps room k n m Byte e = value-keeps room k n m e
-data-keeps room k n m Other e = value-keeps room k n m e
-data-keeps room k n m Separator e = never e
-data-keeps room k n m Ending e = never (sym (end-keeps k n m) ∙ e)
-data-keeps room k n m Illegal e = value-keeps room k n m e
-
-pub keeps-inside : (room : ℕ) (p : Phase) (w : ℕ) → stepOf room p w .keeps ≡ true → collectedOf p < room
-unfolding stepOf
-keeps-inside room Idle w e = never (sym (idle-keeps (classOf w)) ∙ e)
-keeps-inside room Kind w e = never (sym (kind-keeps (classOf w) (w % 256)) ∙ e)
-keeps-inside room (First k) w e = never (sym (count-keeps (classOf w) _ refl) ∙ e)
-keeps-inside room (Second k x) w e = never (sym (count-keeps (classOf w) _ refl) ∙ e)
-keeps-inside room (Third k x y) w e = never (sym (count-keeps (classOf w) _ refl) ∙ e)
-keeps-inside room (Fourth k x y z) w e = never (sym (count-keeps (classOf w) _ (counted-keeps room k _)) ∙ e)
-keeps-inside room (Data k n m) w e = data-keeps room k n m (classOf w) e
 
 -- ---- parts lent for a run
 pub front-long : (k : ℕ) (l : List ℕ) → k ≤ length l → k ≡ length (take k l)

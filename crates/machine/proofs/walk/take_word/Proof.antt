@@ -4,7 +4,7 @@ use Prim.Native.Nat.{ℕ}
 use lib.ListN.{length}
 use Rattle.machine.specs.declared.step.Step.{Step}
 use Rattle.machine.specs.Walk.{stored}
-use Rattle.machine.proofs.RunLaws.{keeps-inside}
+use Rattle.machine.proofs.Kept.{step-steady}
 use borrow.Author.Needs.{needs}
 use Rattle.machine.proofs.walk.take_word.Statement.{statement}
 use Rattle.machine.proofs.walk.take_word.Tie as tie
@@ -23,7 +23,7 @@ put-value-requires c κs = λ e.
     let s = c .before .before .before in
     let g = s .before .before .args in
     rw (c .before .before .collected-of .ensures)
-    (keeps-inside (length (g .room .now)) (g .phase) (g .w) (sym (ap (λ (x : Step). x .keeps) (s .step-word .ensures)) ∙ e))
+    (step-steady (length (g .room .now)) (g .phase) (g .w) .inside (sym (ap (λ (x : Step). x .keeps) (s .step-word .ensures)) ∙ e))
 
 same-length : tie.Need-same-length
 same-length c = search needs
