@@ -3,17 +3,17 @@
 use Prim.Native.Nat.{ℕ, suc, _+_, _≤_}
 use mathlib.Core.Bool.{Bool, true, false, _&&_, not}
 use mathlib.Core.List.{List, [], _∷_, _++_, append-assoc}
-use mathlib.Core.Logic.{⊎-elim}
 use mathlib.Core.Path.{_≡_, refl, sym, ap, ap₂, _∙_, subst}
 use native.Mathlib.Omega.{arith}
 use lib.ListN.{length}
 use borrow.Author.Tests.{eq-eqb}
-use Rattle.lists.specs.Tests.{pick, lowest}
-use Rattle.lists.proofs.Tests.{true-false, and-true, pick-true, lowest-or}
+use Rattle.lists.specs.Tests.{pick}
+use Rattle.lists.proofs.Tests.{true-false, and-true}
+use Rattle.line.proofs.CheckLaws.{from-three}
 use Rattle.line.specs.declared.settings.Settings.{Settings}
 use Rattle.line.specs.Systems.{systemOf}
 use Rattle.line.specs.Settings.{Held}
-use Rattle.line.specs.Check.{settingsOf, fitsLength, faults, lineFault}
+use Rattle.line.specs.Check.{settingsOf, fitsLength, lineFault}
 use Rattle.course.specs.declared.Last.{Last}
 use Rattle.course.specs.declared.Last.the-variants.{Unknown, Number}
 use Rattle.course.specs.declared.Place.{Place}
@@ -93,13 +93,6 @@ first-line st room _ _ (next {st′ = st′} {room′ = room′} {line = l} {lin
   reads = subst (λ (z : List (List ℕ)). Reads st′ room′ z ks) (ap tailOf e) r;
   is = refl;
 }
-
--- a fault that is none of 1 and 2
-from-three : (system mode : ℕ) (line : List ℕ) → fitsLength system mode (length line) ≡ true → (lineFault system mode line ≡ 0 → ⊥) → 3 ≤ lineFault system mode line
-unfolding lineFault
-from-three system mode line fit h =
-    let is = pick-true (lowest 3 (faults (systemOf system) mode line)) 1 fit in
-    subst (λ (n : ℕ). 3 ≤ n) (sym is) (⊎-elim (λ z. absurd (h (is ∙ z))) (λ z. z) (lowest-or 3 (faults (systemOf system) mode line)))
 
 at-some : (p : Place) → isAt p ≡ true → (P : Type 0) → ((q : ℕ) → p ≡ At q → P) → P
 at-some Shut e P h = absurd (true-false (sym e))

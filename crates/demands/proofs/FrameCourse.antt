@@ -36,6 +36,7 @@ use Rattle.writer.specs.Answers.{Left, Added}
 use Rattle.writer.specs.Block.{blockWords, wordsIn}
 use Rattle.writer.specs.Opening.{openBlocked, openFault, openWords}
 use Rattle.writer.specs.Adding.{valued, illShaped, isFull, isOther, addFault, todo, room, adding}
+use Rattle.writer.proofs.Refusals.{clear-open}
 use Rattle.writer.specs.Closing.{closeFault, closing}
 use Rattle.writer.specs.Course.{pieceOf, joined, asLaid}
 use Rattle.writer.proofs.Keeps.{open-leaves, add-leaves, close-leaves}
@@ -107,9 +108,8 @@ fits-by n e = ap (λ (m : ℕ). not (fitsLength 0 8 m)) e
 -- ---- calls without fault
 open-free : (w : Writer) (n : ℕ) (long : ℕ) → not (fitsLength (w .system) (w .mode) long) ≡ false → impossible w ≡ false
     → (leb 1 n && leb n (systemOf (w .system) .lines)) ≡ true → settingsFault (w .system) one-set ≡ 0 → openBlocked w n one-set ≡ false → openFault w n one-set long ≡ 0
-unfolding openFault
 open-free w n long fit possible range clean free =
-    pick-false _ _ fit ∙ pick-false _ _ possible ∙ pick-false _ _ (ap not range) ∙ pick-false _ _ (ap (λ (m : ℕ). not (eqb m 0)) clean) ∙ pick-false _ _ free
+    clear-open w n one-set long fit possible (ap not range) clean free
 
 add-free : (w : Writer) (long kind : ℕ) (vs : List ℕ) → not (fitsLength (w .system) (w .mode) long) ≡ false → impossible w ≡ false → valued (w .mode) vs ≡ true
     → illShaped (w .place) (w .settings .block) kind (length vs) ≡ false → isFull (endIn w) (w .place) ≡ false

@@ -5,7 +5,7 @@ use mathlib.Core.List.{List, [], _∷_, _++_}
 use Prim.Native.Nat.{ℕ, suc}
 use lib.Dec.{T, eqb}
 use lib.ListN.{take, drop, replicate}
-use Rattle.lists.specs.Tests.{pick, lowest}
+use Rattle.lists.specs.Tests.{pick, lowestOf}
 use Rattle.lists.specs.Lists.{part}
 use Rattle.words.specs.Forms.{byteWord, dataWord, isByte, isData}
 use Rattle.words.specs.Modes.{isMode}
@@ -64,7 +64,7 @@ renumber w l = let m = put 11 w l in resum (take 12 m ++ (crcWords (part 7 5 m) 
 
 -- the lowest of 3 to 16 that holds
 found : ℕ → List ℕ → ℕ
-found mode l = lowest 3 (faults short mode l)
+found mode l = lowestOf (faults short mode l)
 
 -- what the definitions give, and what 01 has
 pub record Case : Type 0 where

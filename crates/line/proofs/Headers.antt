@@ -13,7 +13,8 @@ use lib.ListN.{length, getD, take, drop, length-append, length-map, length-drop,
 use lib.Seq.{take-at, drop-at, drop-cons, getD-at, getD-drop, take-all, drop-drop}
 use borrow.Author.Tests.{eqb-true, eq-eqb, ltb-true, lt-ltb, le-leb, not-false}
 use Rattle.lists.specs.Lists.{part, each}
-use Rattle.lists.proofs.Tests.{both-true, Clear}
+use Rattle.lists.proofs.Tests.{both-true}
+use Rattle.lists.proofs.Refusals.{Clear}
 use Rattle.lists.proofs.Lists.{part-add, length-part, getD-part, part-two, part-part, map-part, append-inj, same-eq, eq-same, each-append, map-back, each-map}
 use Rattle.words.specs.Forms.{byteWord, isByte, isData, bit}
 use Rattle.words.specs.Checksum.{checksum, sumOf}

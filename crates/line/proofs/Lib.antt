@@ -1,8 +1,8 @@
 pub mod SystemLaws
 pub mod FixedLaws
+pub mod CheckLaws
 pub mod SettingsLaws
 pub mod AreaLaws
-pub mod CheckLaws
 pub mod Written
 pub mod Headers
 pub mod Lines

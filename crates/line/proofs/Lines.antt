@@ -11,9 +11,9 @@ use lib.Dec.{eqb}
 use lib.ListN.{length, take, drop, length-append}
 use lib.Seq.{drop-at}
 use borrow.Author.Tests.{eqb-true, eq-eqb, ltb-false, not-false}
-use Rattle.lists.specs.Tests.{pick, lowest}
+use Rattle.lists.specs.Tests.{pick}
 use Rattle.lists.specs.Lists.{part, each}
-use Rattle.lists.proofs.Tests.{pick-true, picked, Clear, lowest-clear, clear-lowest, clear-append, clear-split}
+use Rattle.lists.proofs.Refusals.{Clear, lowest-clear, clear-lowest, clear-append, clear-split}
 use Rattle.lists.proofs.Lists.{part-front, part-behind, drop-behind, eq-same}
 use Rattle.words.specs.Forms.{isData}
 use Rattle.words.specs.Modes.{isMode}
@@ -25,18 +25,19 @@ use Rattle.line.specs.Fixed.{isVariable}
 use Rattle.line.specs.Settings.{Held, settingsFaults, settingsFault}
 use Rattle.line.specs.Header.{headerWords}
 use Rattle.line.specs.Layout.{gapAt, savAt, payloadAt, gapWords, areaLength, endWords, lineWords, areaOf, endOf}
-use Rattle.line.specs.Check.{legal, numberOf, settingsOf, headFaults, areaFaults, payloadFaults, faults, fitsLength, fits, lineFault, checkedFrom, checkedOf}
+use Rattle.line.specs.Check.{legal, numberOf, settingsOf, headFaults, areaFaults, payloadFaults, faults, fitsLength, fits, lineFaults, lineFault, checkedFrom, checkedOf}
 use Rattle.line.proofs.SystemLaws.{Sound, sound, fitting}
+use Rattle.line.proofs.CheckLaws.{settings-rising, check-rising}
 use Rattle.line.proofs.Headers.{head-again, header-length, crc-formed, ReadBack, head-back}
 
 -- demand 2's last part: an accepted header written again gives the same 53 words
 pub written-again : (system mode : ℕ) (line : List ℕ) → lineFault system mode line ≡ 0 → part 4 53 line ≡ headerWords (numberOf line) (settingsOf line)
 unfolding lineFault faults
 written-again system mode line e =
-    let p = picked (fits system mode line) (lowest 3 (faults (systemOf system) mode line)) e in
-    let k = fitting system mode line (p .0) in
+    let c = lowest-clear (lineFaults system mode line) (check-rising system mode line) e in
+    let k = fitting system mode line (not-false _ (c .0)) in
     let long : 57 ≤ length line = omega (arith, k .row .room, k .long) in
-    head-again line long (systemOf system) (clear-split (headFaults (systemOf system) line) _ (lowest-clear 2 (faults (systemOf system) mode line) (p .1)) .0)
+    head-again line long (systemOf system) (clear-split (headFaults (systemOf system) line) _ (c .1) .0)
 
 -- ---- six pieces, one after another
 pub record Six : Type 0 where
@@ -189,7 +190,7 @@ module _ (system mode : ℕ) (f v : Bool) (n : ℕ) (s : Settings) (area : List 
 
   clear-settings : Clear (settingsFaults (systemOf system) s)
   unfolding settingsFault
-  clear-settings = lowest-clear 9 (settingsFaults (systemOf system) s) (b .clean)
+  clear-settings = lowest-clear (settingsFaults (systemOf system) s) (settings-rising (systemOf system) s) (b .clean)
 
   read : ReadBack (systemOf system) built n s
   unfolding settingsFaults six
@@ -227,7 +228,7 @@ module _ (system mode : ℕ) (f v : Bool) (n : ℕ) (s : Settings) (area : List 
   accepted = record {
     long = long-built;
     checked =
-        ap (λ (k : ℕ). checkedFrom k built) (pick-true (lowest 3 (faults (systemOf system) mode built)) 1 fits-built ∙ clear-lowest 3 (faults (systemOf system) mode built) clear-faults)
+        ap (λ (k : ℕ). checkedFrom k built) (clear-lowest (lineFaults system mode built) (ap not fits-built, clear-faults))
         ∙ ap₂ (λ (k : ℕ) (t : Settings). record { fault = 0; number = k; settings = t }) (read .number) (read .settings);
     area-back = area-built;
   }

@@ -6,7 +6,7 @@ ghost use mathlib.Core.Path.{_≡_};
 ghost use mathlib.Core.List.{map};
 ghost use Prim.Native.Nat.{_+_, _-_, _≤_};
 ghost use lib.ListN.{length};
-ghost use Rattle.lists.specs.Tests.{lowest};
+ghost use Rattle.lists.specs.Tests.{lowestOf};
 ghost use Rattle.lists.specs.Lists.{part, same, each};
 ghost use Rattle.words.specs.Forms.{isByte, isData};
 ghost use Rattle.words.specs.Crc.{crcWords};
@@ -133,7 +133,7 @@ fn is_numbered(lines: u16, line: &[u16]) -> bool
 // The lowest of 3 to 9 that holds of a line of the system's length, or 0: from the last condition to the first.
 pub(crate) fn head_fault(s: System, line: &[u16]) -> u8
     requires { ⌜ (s .payload + 61 ≤ s .length) × (s .length ≡ length (now line)) ⌝ }
-    ensures { λ r. ⌜ r ≡ lowest 3 (headFaults s (now (line .entry))) ⌝ }
+    ensures { λ r. ⌜ r ≡ lowestOf (headFaults s (now (line .entry))) ⌝ }
 {
     let sav = s.length - s.payload - 4;
     let sum = words::checksum::checksum_of(&line[7..56]);

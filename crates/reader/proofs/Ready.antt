@@ -8,7 +8,9 @@ use native.Mathlib.Omega.{arith}
 use lib.Dec.{eqb}
 use lib.ListN.{length}
 use borrow.Author.Tests.{eqb-true, not-false}
-use Rattle.lists.proofs.Tests.{or-false, false-or, passed, or-right, both-true}
+use Rattle.lists.specs.Tests.{rising}
+use Rattle.lists.proofs.Tests.{or-false, false-or, or-right, both-true}
+use Rattle.lists.proofs.Refusals.{lowest-clear}
 use Rattle.lists.proofs.Lists.{length-part}
 use Rattle.course.specs.declared.Place.{Place}
 use Rattle.course.specs.declared.Place.the-variants.{At}
@@ -22,7 +24,7 @@ use Rattle.course.proofs.CourseLaws.{end-in-area, placed-end, Begun, begun, beg
 use Rattle.reader.specs.Phases.{isBusy, misphased}
 use Rattle.reader.specs.declared.state.Reader.{Reader}
 use Rattle.reader.specs.State.{capacity, impossible}
-use Rattle.reader.specs.Reading.{wordsFrom, readFault}
+use Rattle.reader.specs.Reading.{wordsFrom, readFaults, readFault}
 
 -- ---- the two parts of the rule
 pub course-of : (st : Reader) → impossible st ≡ false → impossibleAfter (st .system) (st .last) (st .settings) (st .place) (isBusy (st .phase)) ≡ false
@@ -37,6 +39,10 @@ pub possible-by : (st : Reader) → Begun (st .system) (st .last) (st .settings)
 unfolding impossible
 possible-by st b e = false-or (begun-possible (st .system) (st .last) (st .settings) (st .place) (isBusy (st .phase)) b) e
 
+-- the numbers rise, whatever the conditions are: the answer is the lowest whose condition holds
+pub read-rising : (st : Reader) (long room : ℕ) → rising (readFaults st long room) ≡ true
+read-rising st long room = refl
+
 -- what no fault 1 or 2 says
 pub record Ready (st : Reader) (line room : List ℕ) : Type 0 where
   pub fit : fits (st .system) (st .mode) line ≡ true
@@ -46,9 +52,9 @@ pub record Ready (st : Reader) (line room : List ℕ) : Type 0 where
 pub ready : (st : Reader) (line room : List ℕ) → readFault st (length line) (length room) ≡ 0 → Ready st line room
 unfolding readFault
 ready st line room e =
-    let a = passed 0 (not (fits (st .system) (st .mode) line && eqb (length room) capacity)) _ e in
-    let b = both-true (fits (st .system) (st .mode) line) _ (not-false _ (a .0)) in
-    record { fit = b .0; long = eqb-true _ _ (b .1); state = passed 1 (impossible st) 0 (a .1) .0 }
+    let c = lowest-clear (readFaults st (length line) (length room)) (read-rising st (length line) (length room)) e in
+    let b = both-true (fits (st .system) (st .mode) line) _ (not-false _ (c .0)) in
+    record { fit = b .0; long = eqb-true _ _ (b .1); state = c .1 .0 }
 
 module _ (st : Reader) (q : ℕ) (line room : List ℕ) (at : st .place ≡ At q) (r : Ready st line room) where
   abbrev payload : ℕ

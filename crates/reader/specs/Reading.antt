@@ -5,7 +5,7 @@ use mathlib.Core.Bool.{Bool, false, _&&_, not}
 use mathlib.Core.List.{List, [], _∷_}
 use lib.Dec.{eqb}
 use lib.ListN.{length}
-use Rattle.lists.specs.Tests.{pick, when, lowestOf}
+use Rattle.lists.specs.Tests.{pick, Refusal, when, lowestOf}
 use Rattle.lists.specs.Lists.{part}
 use Rattle.line.specs.declared.settings.Settings.{Settings}
 use Rattle.line.specs.declared.check.Checked.{Checked}
@@ -90,8 +90,11 @@ goesFrom st q x = call (toldBy st (q + x .answer .taken) (x .answer .phase) (x .
 
 -- ---- the call
 -- 1: unknown system or mode, line not L long, room not 16,384; 2: state not possible
+abbrev pub readFaults : Reader → ℕ → ℕ → List Refusal
+readFaults st long room = when 1 (not (fitsLength (st .system) (st .mode) long && eqb room capacity)) ∷ when 2 (impossible st) ∷ []
+
 unfoldable pub readFault : Reader → ℕ → ℕ → ℕ
-readFault st long room = lowestOf (when 1 (not (fitsLength (st .system) (st .mode) long && eqb room capacity)) ∷ when 2 (impossible st) ∷ [])
+readFault st long room = lowestOf (readFaults st long room)
 
 abbrev pub readFrom : Place → Reader → List ℕ → List ℕ → Call
 readFrom Shut st line room = call (starts st (checkedOf (st .system) (st .mode) line)) room
