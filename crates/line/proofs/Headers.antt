@@ -18,7 +18,7 @@ use Rattle.lists.proofs.Refusals.{Clear}
 use Rattle.lists.proofs.Lists.{part-add, length-part, getD-part, part-two, part-part, map-part, append-inj, same-eq, eq-same, each-append, map-back, each-map}
 use Rattle.words.specs.Forms.{byteWord, isByte, isData, bit}
 use Rattle.words.specs.Checksum.{checksum, sumOf}
-use Rattle.words.specs.Crc.{crcOf, crcStart, crcLow, crcHigh, crcWords}
+use Rattle.words.specs.Crc.{crcOf, crcStart, crcWords}
 use Rattle.words.proofs.FormLaws.{byte-back, byte-low, byte-in, data-in}
 use Rattle.line.specs.declared.settings.Settings.{Settings}
 use Rattle.line.specs.declared.systems.System.{System}
@@ -237,7 +237,7 @@ timed-back at line f v eav sav =
     (eq-same (part at 4 line) _ (sav ∙ ap₂ (λ (a b : Bool). timingWords a b false) f′ v′))
 
 pub crc-formed : (ws : List ℕ) → each isData (crcWords ws) ≡ true
-unfolding crcWords crcLow crcHigh
+unfolding crcWords
 crc-formed ws =
     let c = crcOf crcStart ws in
     ap₂ _&&_ (data-in (c % 512) (mod-lt c (lit< tt))) (ap₂ _&&_ (data-in (c / 512 % 512) (mod-lt (c / 512) (lit< tt))) refl)

@@ -112,12 +112,9 @@ fn crc_stands(line: &[u16], a: usize, e: usize) -> bool
     requires { ⌜ (a ≤ e) × (e + 2 ≤ length (now line)) ⌝ }
     ensures { λ r. ⌜ r ≡ same (part e 2 (now (line .entry))) (crcWords (part a (e - a) (now (line .entry)))) ⌝ }
 {
-    let c = words::crc::crc_of(262143, &line[a..e]);
+    let c = words::crc::crc_of(words::crc::CRC_START, &line[a..e]);
     let end = e + 2;
-    lists::same_words(
-        &line[e..end],
-        &[words::crc::crc_low(c), words::crc::crc_high(c)],
-    )
+    lists::same_words(&line[e..end], &words::crc::crc_words(c))
 }
 
 // The number is 1..N, and B7-B2 of its second word are 0.

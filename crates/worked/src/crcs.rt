@@ -46,8 +46,9 @@ fn words_of(kind: u64, seed: u64) -> [u16; 1918]
 fn put_list(s: &[u16]) {
     let c = crc::crc_of(262143, s);
     rows::put(c as u64);
-    rows::put(crc::crc_low(c) as u64);
-    rows::put(crc::crc_high(c) as u64);
+    let two = crc::crc_words(c);
+    rows::put(two[0] as u64);
+    rows::put(two[1] as u64);
     rows::put(checksum::checksum_of(s) as u64);
 }
 

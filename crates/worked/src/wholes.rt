@@ -62,8 +62,8 @@ fn lay_crc(line: [u16; 2304], a: usize, e: usize) -> [u16; 2304]
     requires { ⌜ (length line ≡ 2304) × ((a ≤ e) × (e + 2 ≤ 2304)) ⌝ }
     ensures { λ r. ⌜ length r ≡ 2304 ⌝ }
 {
-    let c = crc::crc_of(262143, &line[a..e]);
-    lay(line, e, &[crc::crc_low(c), crc::crc_high(c)])
+    let c = crc::crc_of(crc::CRC_START, &line[a..e]);
+    lay(line, e, &crc::crc_words(c))
 }
 
 // The payload CRC, where the flag is 1.
