@@ -36,8 +36,8 @@ use Rattle.writer.specs.Answers.{Left, Added}
 use Rattle.writer.specs.Block.{blockWords, wordsIn}
 use Rattle.writer.specs.Opening.{openBlocked, openFault, openWords}
 use Rattle.writer.specs.Adding.{valued, illShaped, isFull, isOther, addFault, todo, room, adding}
-use Rattle.writer.proofs.Refusals.{clear-open}
 use Rattle.writer.specs.Closing.{closeFault, closing}
+use Rattle.writer.proofs.Refusals.{clear-open}
 use Rattle.writer.specs.Course.{pieceOf, joined, asLaid}
 use Rattle.writer.proofs.Keeps.{open-leaves, add-leaves, close-leaves}
 use Rattle.writer.proofs.Framing.{front, front-length, framed-front}
@@ -92,11 +92,11 @@ open-long d ok at =
     let o = ok .opened at in
     let a = joined (d .now .pieces) in
     let s = d .now in
-    let h = front (systemOf 0) (s .f) (s .v) (s .number) (s .settings) in
+    let h = front (systemOf 0) (s .f) (s .v) (s .number) (s .settings) [] in
     let fill : List ℕ = replicate (1440 - length a) 0x200 in
     let whole : length (d .now .words) ≡ length h + length (a ++ fill) =
-    ap length (o .is-open .is ∙ framed-front (systemOf 0) (s .f) (s .v) (s .number) (s .settings) (a ++ fill)) ∙ length-append h (a ++ fill) in
-    let before : length h ≡ 276 = front-length (systemOf 0) (s .f) (s .v) (s .number) (s .settings) (o .held) (o .row .room) in
+    ap length (o .is-open .is ∙ framed-front (systemOf 0) (s .f) (s .v) (s .number) (s .settings) [] (a ++ fill)) ∙ length-append h (a ++ fill) in
+    let before : length h ≡ 276 = front-length (systemOf 0) (s .f) (s .v) (s .number) (s .settings) [] (o .held) (o .row .room) (omega arith) in
     let laid = length-append a fill in
     let filled : length {A = ℕ} (replicate (1440 - length a) 0x200) ≡ 1440 - length a = length-replicate (1440 - length a) 0x200 in
     omega (arith, o .is-open .within, area-most 1440 (s .settings .flag))

@@ -49,7 +49,7 @@ guarded = set 1 0 0xc1 1 0
 
 -- its line of that number and those settings, all filler
 line : ℕ → Settings → List ℕ
-line n s = lineWords short false true n s (replicate (areaLength 10 (s .flag)) 0x200)
+line n s = lineWords short false true n s [] (replicate (areaLength 10 (s .flag)) 0x200)
 
 -- the word at index i changed to w
 put : ℕ → ℕ → List ℕ → List ℕ

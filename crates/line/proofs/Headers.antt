@@ -92,7 +92,7 @@ module _ (line : List ℕ) (n : ℕ) (s : Settings) (long : 57 ≤ length line) 
       }
 
 -- ---- the settings from 40 bytes
-abbrev settingsFrom : List ℕ → Settings
+abbrev pub settingsFrom : List ℕ → Settings
 settingsFrom b =
     record {
       code = getD b 0 0 % 16;
@@ -104,7 +104,7 @@ settingsFrom b =
       reserved = part 35 5 b;
     }
 
-from-bytes : (line : List ℕ) → settingsOf line ≡ settingsFrom (map low (part 14 40 line))
+pub from-bytes : (line : List ℕ) → settingsOf line ≡ settingsFrom (map low (part 14 40 line))
 unfolding settingsOf
 from-bytes line =
     let b = map low (part 14 40 line) in

@@ -5,5 +5,6 @@ pub mod SettingsLaws
 pub mod AreaLaws
 pub mod Written
 pub mod Headers
+pub mod GapLaws
 pub mod Lines
 pub mod Examples

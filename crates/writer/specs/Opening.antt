@@ -47,7 +47,7 @@ openState w n t = record { system = w .system; mode = w .mode; last = Number n; 
 
 -- Opening writes L words, the payload all 200h.
 unfoldable pub openWords : ℕ → Bool → Bool → ℕ → Settings → List ℕ
-openWords system f v n t = framed (systemOf system) f v n t (replicate (systemOf system .payload) 0x200)
+openWords system f v n t = framed (systemOf system) f v n t [] (replicate (systemOf system .payload) 0x200)
 
 -- a refusal leaves line and state
 unfoldable pub opening : Writer → Bool → Bool → ℕ → Settings → List ℕ → Left

@@ -17,7 +17,7 @@ ghost use lib.ListN.{length, replicate};
 ghost use Rattle.line.specs.Systems.{systemOf};
 ghost use Rattle.line.specs.Timing.{timingWords};
 ghost use Rattle.line.specs.Header.{headerWords};
-ghost use Rattle.line.specs.Layout.{gapWords, framed};
+ghost use Rattle.line.specs.Layout.{gapWords};
 ghost use Rattle.writer.specs.Answers.{left};
 ghost use Rattle.writer.specs.Opening.{isNext, openBlocked, openFault, openState, openWords, opening};
 
