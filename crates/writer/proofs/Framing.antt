@@ -2,7 +2,7 @@
 -- Assumes nothing.
 use mathlib.Core.Path.{_≡_, refl, sym, ap, ap₂, _∙_}
 use mathlib.Core.Bool.{Bool, true, false}
-use mathlib.Core.List.{List, [], _∷_, _++_, append-assoc}
+use mathlib.Core.List.{List, _∷_, _++_, append-assoc}
 use Prim.Native.Nat.{ℕ, zero, suc, _+_, _-_, _≤_}
 use native.Mathlib.Nat.{sub-zero, zero-sub, suc-sub-suc}
 use native.Mathlib.Omega.{arith}
@@ -15,7 +15,7 @@ use Rattle.line.specs.declared.settings.Settings.{Settings}
 use Rattle.line.specs.Timing.{timingWords}
 use Rattle.line.specs.Settings.{Held}
 use Rattle.line.specs.Header.{headerWords}
-use Rattle.line.specs.Layout.{gapAt, savAt, payloadAt, gapAfter, areaLength, endWords, framed, lineWords, areaOf}
+use Rattle.line.specs.Layout.{payloadAt, gapAfter, areaLength, endWords, framed, lineWords, areaOf}
 use Rattle.line.proofs.Headers.{header-length}
 use Rattle.line.proofs.GapLaws.{GapHolds, gap-long}
 use Rattle.line.proofs.Lines.{four}

@@ -1,5 +1,5 @@
 -- `line::area::area_fault` meets its contract. Assumes nothing.
-use mathlib.Core.Path.{ap, ap₂, _∙_}
+use mathlib.Core.Path.{ap, ap₂}
 use mathlib.Core.Bool.{_&&_, not}
 use denote.Ref.{now}
 use Rattle.lists.proofs.Refusals.{LowestOf, low-none, low-step}

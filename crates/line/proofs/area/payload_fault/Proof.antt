@@ -9,7 +9,7 @@ use lib.ListN.{length, take, drop, length-drop}
 use lib.Seq.{take-all}
 use Rattle.lists.specs.Tests.{lowestOf}
 use Rattle.line.specs.Fixed.{isVariable}
-use Rattle.line.specs.Layout.{payloadAt, areaLength, areaOf, endOf}
+use Rattle.line.specs.Layout.{areaOf, endOf}
 use Rattle.line.specs.Check.{areaFaults, payloadFaults}
 use borrow.Author.Needs.{needs}
 use Rattle.line.proofs.area.payload_fault.Statement.{statement}

@@ -1,6 +1,5 @@
 -- `line::check::fault_of` meets its contract. Assumes nothing.
-use mathlib.Core.Path.{_≡_, refl, sym, ap, ap₂, _∙_}
-use Prim.Native.Nat.{ℕ}
+use mathlib.Core.Path.{sym, ap, ap₂, _∙_}
 use denote.Ref.{now}
 use mathlib.Core.List.{List, _++_}
 use Rattle.lists.specs.Tests.{Refusal, lowestOf, orNext}

@@ -1,5 +1,5 @@
 -- `line::head::crc_stands` meets its contract. Assumes nothing.
-use mathlib.Core.Path.{_≡_, refl, sym, ap, ap₂, _∙_}
+use mathlib.Core.Path.{_≡_, ap, ap₂, _∙_}
 use Prim.Native.Nat.{ℕ, _+_, _-_}
 use denote.Ref.{now}
 use native.Mathlib.Omega.{arith}
