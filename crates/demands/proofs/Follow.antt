@@ -1,13 +1,12 @@
 -- A reader that is lent what remains of a writer's lines, followed call by call.
 -- Assumes nothing.
-use Prim.Native.Nat.{ℕ, suc, _+_, _≤_}
+use Prim.Native.Nat.{ℕ, suc, _+_}
 use mathlib.Core.Bool.{Bool, true, false, _&&_, not}
 use mathlib.Core.List.{List, [], _∷_, _++_, append-assoc}
 use mathlib.Core.Path.{_≡_, refl, sym, ap, ap₂, _∙_, subst}
 use native.Mathlib.Omega.{arith}
 use lib.ListN.{length}
 use borrow.Author.Tests.{eq-eqb}
-use Rattle.lists.specs.Tests.{pick}
 use Rattle.lists.proofs.Tests.{true-false, and-true}
 use Rattle.line.proofs.CheckLaws.{from-three}
 use Rattle.line.specs.declared.settings.Settings.{Settings}
