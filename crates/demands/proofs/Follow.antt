@@ -1,17 +1,16 @@
 -- An ear to which what remains of a writer's lines comes, followed call by call.
 -- Assumes nothing.
-use Prim.Native.Nat.{ℕ, suc, _≤_}
+use Prim.Native.Nat.{ℕ, suc}
 use mathlib.Core.Bool.{Bool, true, false}
 use mathlib.Core.List.{List, [], _∷_, _++_, append-assoc}
-use mathlib.Core.Logic.{⊎-elim}
 use mathlib.Core.Path.{_≡_, refl, sym, ap, _∙_, subst}
 use native.Mathlib.Omega.{arith}
 use lib.ListN.{length}
 use borrow.Author.Tests.{eq-eqb}
-use Rattle.lists.specs.Tests.{lowest}
-use Rattle.lists.proofs.Tests.{true-false, and-true, pick-true, lowest-or}
+use Rattle.lists.proofs.Tests.{true-false, and-true}
+use Rattle.line.proofs.CheckLaws.{from-three}
 use Rattle.line.specs.Systems.{systemOf}
-use Rattle.line.specs.Check.{fitsLength, faults, lineFault}
+use Rattle.line.specs.Check.{fitsLength, lineFault}
 use Rattle.course.specs.declared.Place.{Place}
 use Rattle.course.specs.declared.Place.the-variants.{Shut, At}
 use Rattle.course.specs.Course.{isAt}
@@ -40,13 +39,6 @@ use Rattle.demands.proofs.StartLine.{opened-ahead}
 use Rattle.demands.proofs.AddLine.{finished-ahead, unfinished-ahead}
 use Rattle.demands.proofs.QuietLine.{quiet-ahead}
 use Rattle.demands.proofs.EndLine.{Found, found, own-input, refusal-input, area-heard, area-left, shut-ahead, kept-between, removed-between, replaced-between}
-
--- a fault that is none of 1 and 2
-from-three : (system mode : ℕ) (line : List ℕ) → fitsLength system mode (length line) ≡ true → (lineFault system mode line ≡ 0 → ⊥) → 3 ≤ lineFault system mode line
-unfolding lineFault
-from-three system mode line fit h =
-    let is = pick-true (lowest 3 (faults (systemOf system) mode line)) 1 fit in
-    subst (λ (n : ℕ). 3 ≤ n) (sym is) (⊎-elim (λ z. absurd (h (is ∙ z))) (λ z. z) (lowest-or 3 (faults (systemOf system) mode line)))
 
 at-some : (p : Place) → isAt p ≡ true → (P : Type 0) → ((q : ℕ) → p ≡ At q → P) → P
 at-some Shut e P h = absurd (true-false (sym e))

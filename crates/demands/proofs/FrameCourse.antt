@@ -37,6 +37,7 @@ use Rattle.writer.specs.Block.{blockWords, wordsIn}
 use Rattle.writer.specs.Opening.{openBlocked, openFault, openWords}
 use Rattle.writer.specs.Adding.{valued, illShaped, isFull, isOther, addFault, todo, room, adding}
 use Rattle.writer.specs.Closing.{closeFault, closing}
+use Rattle.writer.proofs.Refusals.{clear-open}
 use Rattle.writer.specs.Course.{pieceOf, joined, asLaid}
 use Rattle.writer.proofs.Keeps.{open-leaves, add-leaves, close-leaves}
 use Rattle.writer.proofs.Framing.{front, front-length, framed-front}
@@ -91,11 +92,11 @@ open-long d ok at =
     let o = ok .opened at in
     let a = joined (d .now .pieces) in
     let s = d .now in
-    let h = front (systemOf 0) (s .f) (s .v) (s .number) (s .settings) in
+    let h = front (systemOf 0) (s .f) (s .v) (s .number) (s .settings) [] in
     let fill : List ℕ = replicate (1440 - length a) 0x200 in
     let whole : length (d .now .words) ≡ length h + length (a ++ fill) =
-    ap length (o .is-open .is ∙ framed-front (systemOf 0) (s .f) (s .v) (s .number) (s .settings) (a ++ fill)) ∙ length-append h (a ++ fill) in
-    let before : length h ≡ 276 = front-length (systemOf 0) (s .f) (s .v) (s .number) (s .settings) (o .openable .held) (o .openable .row .room) in
+    ap length (o .is-open .is ∙ framed-front (systemOf 0) (s .f) (s .v) (s .number) (s .settings) [] (a ++ fill)) ∙ length-append h (a ++ fill) in
+    let before : length h ≡ 276 = front-length (systemOf 0) (s .f) (s .v) (s .number) (s .settings) [] (o .openable .held) (o .openable .row .room) (omega arith) in
     let laid = length-append a fill in
     let filled : length {A = ℕ} (replicate (1440 - length a) 0x200) ≡ 1440 - length a = length-replicate (1440 - length a) 0x200 in
     omega (arith, o .is-open .within, area-most 1440 (s .settings .flag))
@@ -107,9 +108,8 @@ fits-by n e = ap (λ (m : ℕ). not (fitsLength 0 8 m)) e
 -- ---- calls without fault
 open-free : (w : Writer) (n : ℕ) (long : ℕ) → not (fitsLength (w .system) (w .mode) long) ≡ false → impossible w ≡ false
     → (leb 1 n && leb n (systemOf (w .system) .lines)) ≡ true → settingsFault (w .system) one-set ≡ 0 → openBlocked w n one-set ≡ false → openFault w n one-set long ≡ 0
-unfolding openFault
 open-free w n long fit possible range clean free =
-    pick-false _ _ fit ∙ pick-false _ _ possible ∙ pick-false _ _ (ap not range) ∙ pick-false _ _ (ap (λ (m : ℕ). not (eqb m 0)) clean) ∙ pick-false _ _ free
+    clear-open w n one-set long fit possible (ap not range) clean free
 
 add-free : (w : Writer) (long kind : ℕ) (vs : List ℕ) → not (fitsLength (w .system) (w .mode) long) ≡ false → impossible w ≡ false → valued (w .mode) vs ≡ true
     → illShaped (w .place) (w .settings .block) kind (length vs) ≡ false → isFull (endIn w) (w .place) ≡ false

@@ -70,7 +70,7 @@ pub record Adds (mode : ℕ) (d : Desk) (kind : ℕ) (vs : List ℕ) : Type 0 wh
 -- closed: the line of the definition, which the line check accepts
 pub record Closes (system mode : ℕ) (d : Desk) : Type 0 where
   pub is : closing (d .writer) (d .now .words) .line
-      ≡ lineWords (systemOf system) (d .now .f) (d .now .v) (d .now .number) (d .now .settings) (areaFrom (systemOf system .payload) (d .now .settings .flag) (d .now .pieces))
+      ≡ lineWords (systemOf system) (d .now .f) (d .now .v) (d .now .number) (d .now .settings) [] (areaFrom (systemOf system .payload) (d .now .settings .flag) (d .now .pieces))
   pub accepts : Accepted system mode (d .now .number) (d .now .settings) (areaFrom (systemOf system .payload) (d .now .settings .flag) (d .now .pieces)) (closing (d .writer) (d .now .words) .line)
   pub last-is : d .writer .last ≡ Number (d .now .number)
   pub settings-are : d .writer .settings ≡ d .now .settings

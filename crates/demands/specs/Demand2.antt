@@ -33,7 +33,7 @@ use Rattle.demands.specs.Hearing.{Heard, is-begun, is-block, is-end, Rea
 -- The line is 01's: EAV, header, gap, SAV, then the area, which is what was laid and filler behind it, and the CRC words.
 abbrev pub IsLine : ℕ → Sent → Type 0
 IsLine system s =
-    s .words ≡ lineWords (systemOf system) (s .f) (s .v) (s .number) (s .settings) (areaFrom (systemOf system .payload) (s .settings .flag) (s .pieces))
+    s .words ≡ lineWords (systemOf system) (s .f) (s .v) (s .number) (s .settings) [] (areaFrom (systemOf system .payload) (s .settings .flag) (s .pieces))
 
 -- a piece has one word or more
 abbrev pub HasWord : Piece → Type 0
@@ -59,7 +59,7 @@ pub record Demand2 : Type 0 where
   pub lines : (system mode : ℕ) (cs : List Call) → All (IsLine system) (sentFresh system mode cs)
   -- and the same of a writer in any state, fresh or not: a line opened, filled by any calls and closed
   pub any-line : (w : Writer) (f v : Bool) (n : ℕ) (t : Settings) (lent : List ℕ) (w′ : Writer) (line : List ℕ) (ps : List (List ℕ)) → Held t
-      → Written w f v n t lent w′ line ps → line ≡ lineWords (systemOf (w .system)) f v n t (areaFrom (systemOf (w .system) .payload) (t .flag) ps)
+      → Written w f v n t lent w′ line ps → line ≡ lineWords (systemOf (w .system)) f v n t [] (areaFrom (systemOf (w .system) .payload) (t .flag) ps)
   pub blocks : (system mode : ℕ) (cs : List Call) → All (HasBlocks mode) (sentFresh system mode cs)
   -- with no line begun, and neither 1 nor 2: begun exactly if none of the conditions 3 to 16 holds
   pub accepted : (st : Reader) (line room : List ℕ) → readFault st (length line) (length room) ≡ 0 → st .place ≡ Shut

@@ -5,7 +5,7 @@ use mathlib.Core.List.{List, [], _∷_, _++_}
 use Prim.Native.Nat.{ℕ, suc}
 use lib.Dec.{T, eqb}
 use lib.ListN.{take, drop, replicate}
-use Rattle.lists.specs.Tests.{pick, lowest}
+use Rattle.lists.specs.Tests.{pick, lowestOf}
 use Rattle.lists.specs.Lists.{part}
 use Rattle.words.specs.Forms.{byteWord, dataWord, isByte, isData}
 use Rattle.words.specs.Modes.{isMode}
@@ -49,7 +49,7 @@ guarded = set 1 0 0xc1 1 0
 
 -- its line of that number and those settings, all filler
 line : ℕ → Settings → List ℕ
-line n s = lineWords short false true n s (replicate (areaLength 10 (s .flag)) 0x200)
+line n s = lineWords short false true n s [] (replicate (areaLength 10 (s .flag)) 0x200)
 
 -- the word at index i changed to w
 put : ℕ → ℕ → List ℕ → List ℕ
@@ -64,7 +64,7 @@ renumber w l = let m = put 11 w l in resum (take 12 m ++ (crcWords (part 7 5 m) 
 
 -- the lowest of 3 to 16 that holds
 found : ℕ → List ℕ → ℕ
-found mode l = lowest 3 (faults short mode l)
+found mode l = lowestOf (faults short mode l)
 
 -- what the definitions give, and what 01 has
 pub record Case : Type 0 where

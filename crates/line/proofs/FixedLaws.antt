@@ -3,15 +3,16 @@
 use mathlib.Core.Path.{_≡_, refl, sym, ap, ap₂, _∙_, subst}
 use mathlib.Core.Bool.{Bool, true, false, _&&_, _||_, not}
 use mathlib.Core.List.{List, [], _∷_}
-use Prim.Native.Nat.{ℕ, zero, suc, _+_, _-_, _*_, _%_, _/_, _^_, _<_, _≤_}
-use native.Mathlib.Omega.{arith}
+use mathlib.Core.Logic.{⊎-elim}
+use Prim.Native.Nat.{ℕ, _+_, _-_, _*_, _%_, _/_, _^_, _<_, _≤_}
 use native.Mathlib.Nat.{mod-lt, mod-mod, lt-of-le-of-lt, le-of-lt, mul-le-mul-left, mul-lt-mul-of-pos-right}
 use lib.Dec.{T, eqb, leb, lit<}
-use borrow.Author.Tests.{eqb-true, ne-eqb, ltb-true, leb-true}
+use borrow.Author.Tests.{eqb-true, ne-eqb, leb-true}
 use Rattle.lists.specs.Tests.{pick}
 use Rattle.lists.proofs.Tests.{all, below, agree, agree→eq, pick-false}
 use Rattle.line.specs.declared.fixed.Fixed.{Fixed}
 use Rattle.line.specs.Systems.{systemOf, isSystem}
+use Rattle.line.proofs.SystemLaws.{sound}
 use Rattle.line.specs.Layout.{areaLength}
 use Rattle.line.specs.Fixed.{Row, table, find, fixed, fixedOf, placesOf, sizeOf, fillsAll, isVariable, blockRefused}
 
@@ -99,12 +100,7 @@ fills-360 k h = agree→eq (fillsAll 1920 k) (named 1920 k) (below 64 (λ k. agr
 
 -- the payload of a system is one of the two
 payloads : (system : ℕ) → isSystem system ≡ true → (P : ℕ → Type 0) → P 1440 → P 1920 → P (systemOf system .payload)
-unfolding isSystem
-payloads zero e P a b = a
-payloads (suc zero) e P a b = a
-payloads (suc (suc zero)) e P a b = b
-payloads (suc (suc (suc zero))) e P a b = b
-payloads (suc (suc (suc (suc n)))) e P a b = absurd (omega (arith, ltb-true (suc (suc (suc (suc n)))) 4 e))
+payloads system e P a b = ⊎-elim (λ z. subst P (sym z) a) (λ z. subst P (sym z) b) (sound system e .rates)
 
 area-by : (p q : ℕ) (f e l m : Bool) → leb q p ≡ l → leb q (p - 2) ≡ m → T (l && (e || m)) → (f && e) ≡ false → q ≤ pick f (p - 2) p
 unfolding pick

@@ -13,11 +13,12 @@ use lib.ListN.{length, getD, take, drop, length-append, length-map, length-drop,
 use lib.Seq.{take-at, drop-at, drop-cons, getD-at, getD-drop, take-all, drop-drop}
 use borrow.Author.Tests.{eqb-true, eq-eqb, ltb-true, lt-ltb, le-leb, not-false}
 use Rattle.lists.specs.Lists.{part, each}
-use Rattle.lists.proofs.Tests.{both-true, Clear}
+use Rattle.lists.proofs.Tests.{both-true}
+use Rattle.lists.proofs.Refusals.{Clear}
 use Rattle.lists.proofs.Lists.{part-add, length-part, getD-part, part-two, part-part, map-part, append-inj, same-eq, eq-same, each-append, map-back, each-map}
 use Rattle.words.specs.Forms.{byteWord, isByte, isData, bit}
 use Rattle.words.specs.Checksum.{checksum, sumOf}
-use Rattle.words.specs.Crc.{crcOf, crcStart, crcLow, crcHigh, crcWords}
+use Rattle.words.specs.Crc.{crcOf, crcStart, crcWords}
 use Rattle.words.proofs.FormLaws.{byte-back, byte-low, byte-in, data-in}
 use Rattle.line.specs.declared.settings.Settings.{Settings}
 use Rattle.line.specs.declared.systems.System.{System}
@@ -91,7 +92,7 @@ module _ (line : List ℕ) (n : ℕ) (s : Settings) (long : 57 ≤ length line) 
       }
 
 -- ---- the settings from 40 bytes
-abbrev settingsFrom : List ℕ → Settings
+abbrev pub settingsFrom : List ℕ → Settings
 settingsFrom b =
     record {
       code = getD b 0 0 % 16;
@@ -103,7 +104,7 @@ settingsFrom b =
       reserved = part 35 5 b;
     }
 
-from-bytes : (line : List ℕ) → settingsOf line ≡ settingsFrom (map low (part 14 40 line))
+pub from-bytes : (line : List ℕ) → settingsOf line ≡ settingsFrom (map low (part 14 40 line))
 unfolding settingsOf
 from-bytes line =
     let b = map low (part 14 40 line) in
@@ -236,7 +237,7 @@ timed-back at line f v eav sav =
     (eq-same (part at 4 line) _ (sav ∙ ap₂ (λ (a b : Bool). timingWords a b false) f′ v′))
 
 pub crc-formed : (ws : List ℕ) → each isData (crcWords ws) ≡ true
-unfolding crcWords crcLow crcHigh
+unfolding crcWords
 crc-formed ws =
     let c = crcOf crcStart ws in
     ap₂ _&&_ (data-in (c % 512) (mod-lt c (lit< tt))) (ap₂ _&&_ (data-in (c / 512 % 512) (mod-lt (c / 512) (lit< tt))) refl)

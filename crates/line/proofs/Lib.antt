@@ -1,9 +1,10 @@
 pub mod SystemLaws
 pub mod FixedLaws
+pub mod CheckLaws
 pub mod SettingsLaws
 pub mod AreaLaws
-pub mod CheckLaws
 pub mod Written
 pub mod Headers
+pub mod GapLaws
 pub mod Lines
 pub mod Examples

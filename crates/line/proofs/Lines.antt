@@ -1,19 +1,19 @@
 -- Whole lines: an accepted header written again gives the same 53 words; and a line built by the definition from a number 1..N,
--- settings without fault and an area of legal words has no fault and reads back, in every system and mode and with both flags.
+-- settings without fault, any words that the gap can hold and an area of legal words has no fault and reads back, in every system and mode and with both flags.
 -- Assumes nothing.
 use mathlib.Core.Path.{_≡_, refl, sym, ap, ap₂, _∙_, subst}
 use mathlib.Core.Bool.{Bool, true, false, _&&_, not}
 use mathlib.Core.List.{List, [], _++_}
-use Prim.Native.Nat.{ℕ, zero, suc, _+_, _-_, _≤_}
+use Prim.Native.Nat.{ℕ, _+_, _-_, _≤_}
 use native.Mathlib.Nat.{add-zero}
 use native.Mathlib.Omega.{arith}
 use lib.Dec.{eqb}
 use lib.ListN.{length, take, drop, length-append}
 use lib.Seq.{drop-at}
 use borrow.Author.Tests.{eqb-true, eq-eqb, ltb-false, not-false}
-use Rattle.lists.specs.Tests.{pick, lowest}
+use Rattle.lists.specs.Tests.{pick}
 use Rattle.lists.specs.Lists.{part, each}
-use Rattle.lists.proofs.Tests.{pick-true, picked, Clear, lowest-clear, clear-lowest, clear-append, clear-split}
+use Rattle.lists.proofs.Refusals.{Clear, lowest-clear, clear-lowest, clear-append, clear-split}
 use Rattle.lists.proofs.Lists.{part-front, part-behind, drop-behind, eq-same}
 use Rattle.words.specs.Forms.{isData}
 use Rattle.words.specs.Modes.{isMode}
@@ -24,19 +24,21 @@ use Rattle.line.specs.Timing.{timingWords}
 use Rattle.line.specs.Fixed.{isVariable}
 use Rattle.line.specs.Settings.{Held, settingsFaults, settingsFault}
 use Rattle.line.specs.Header.{headerWords}
-use Rattle.line.specs.Layout.{gapAt, savAt, payloadAt, gapWords, areaLength, endWords, lineWords, areaOf, endOf}
-use Rattle.line.specs.Check.{legal, numberOf, settingsOf, headFaults, areaFaults, payloadFaults, faults, fitsLength, fits, lineFault, checkedFrom, checkedOf}
+use Rattle.line.specs.Layout.{gapAt, savAt, payloadAt, gapAfter, areaLength, endWords, lineWords, areaOf, endOf}
+use Rattle.line.specs.Check.{legal, numberOf, settingsOf, headFaults, areaFaults, payloadFaults, faults, fitsLength, fits, lineFaults, lineFault, checkedFrom, checkedOf}
 use Rattle.line.proofs.SystemLaws.{Sound, sound, fitting}
+use Rattle.line.proofs.CheckLaws.{settings-rising, check-rising}
+use Rattle.line.proofs.GapLaws.{GapHolds, gap-long}
 use Rattle.line.proofs.Headers.{head-again, header-length, crc-formed, ReadBack, head-back}
 
 -- demand 2's last part: an accepted header written again gives the same 53 words
 pub written-again : (system mode : ℕ) (line : List ℕ) → lineFault system mode line ≡ 0 → part 4 53 line ≡ headerWords (numberOf line) (settingsOf line)
 unfolding lineFault faults
 written-again system mode line e =
-    let p = picked (fits system mode line) (lowest 3 (faults (systemOf system) mode line)) e in
-    let k = fitting system mode line (p .0) in
+    let c = lowest-clear (lineFaults system mode line) (check-rising system mode line) e in
+    let k = fitting system mode line (not-false _ (c .0)) in
     let long : 57 ≤ length line = omega (arith, k .row .room, k .long) in
-    head-again line long (systemOf system) (clear-split (headFaults (systemOf system) line) _ (lowest-clear 2 (faults (systemOf system) mode line) (p .1)) .0)
+    head-again line long (systemOf system) (clear-split (headFaults (systemOf system) line) _ (c .1) .0)
 
 -- ---- six pieces, one after another
 pub record Six : Type 0 where
@@ -93,10 +95,6 @@ pub four : (f v h : Bool) → length (timingWords f v h) ≡ 4
 unfolding timingWords
 four f v h = refl
 
-pub gap-length : (i n : ℕ) → length (gapWords i n) ≡ n
-gap-length i zero = refl
-gap-length i (suc n) = ap suc (gap-length (suc i) n)
-
 -- ---- what stands behind the area: it fills the payload, and is in data form
 end-by : (p : ℕ) (area : List ℕ) → 2 ≤ p → (b : Bool) → pick b (p - 2) p + length (pick b (crcWords area) []) ≡ p
 unfolding pick crcWords
@@ -134,12 +132,12 @@ pub record Accepted (system mode n : ℕ) (s : Settings) (area line : List ℕ) 
   pub checked : checkedOf system mode line ≡ record { fault = 0; number = n; settings = s }
   pub area-back : areaOf (systemOf system) (s .flag) line ≡ area
 
-module _ (system mode : ℕ) (f v : Bool) (n : ℕ) (s : Settings) (area : List ℕ) (b : Buildable system mode n s area) where
+module _ (system mode : ℕ) (f v : Bool) (n : ℕ) (s : Settings) (laid area : List ℕ) (holds : GapHolds (systemOf system) laid) (b : Buildable system mode n s area) where
   six : Six
   six = record {
     eav = timingWords f v true;
     header = headerWords n s;
-    gap = gapWords gapAt (savAt (systemOf system) - gapAt);
+    gap = gapAfter (systemOf system) laid;
     sav = timingWords f v false;
     area = area;
     end = endWords (s .flag) area;
@@ -149,7 +147,7 @@ module _ (system mode : ℕ) (f v : Bool) (n : ℕ) (s : Settings) (area : List 
   }
 
   built : List ℕ
-  built = lineWords (systemOf system) f v n s area
+  built = lineWords (systemOf system) f v n s laid area
 
   built-of : built ≡ whole six
   unfolding built six lineWords
@@ -157,7 +155,7 @@ module _ (system mode : ℕ) (f v : Bool) (n : ℕ) (s : Settings) (area : List 
 
   gap-is : length (six .gap) ≡ savAt (systemOf system) - gapAt
   unfolding six
-  gap-is = gap-length gapAt (savAt (systemOf system) - gapAt)
+  gap-is = gap-long (systemOf system) laid holds
 
   area-is : length (six .area) ≡ areaLength (systemOf system .payload) (s .flag)
   unfolding six
@@ -189,7 +187,7 @@ module _ (system mode : ℕ) (f v : Bool) (n : ℕ) (s : Settings) (area : List 
 
   clear-settings : Clear (settingsFaults (systemOf system) s)
   unfolding settingsFault
-  clear-settings = lowest-clear 9 (settingsFaults (systemOf system) s) (b .clean)
+  clear-settings = lowest-clear (settingsFaults (systemOf system) s) (settings-rising (systemOf system) s) (b .clean)
 
   read : ReadBack (systemOf system) built n s
   unfolding settingsFaults six
@@ -222,12 +220,12 @@ module _ (system mode : ℕ) (f v : Bool) (n : ℕ) (s : Settings) (area : List 
   fits-built = ap₂ _&&_ (b .known) (ap₂ _&&_ (b .moded) (eq-eqb (length built) (systemOf system .length) long-built))
 
   -- it has no fault, and reads back its number, settings and area
-  pub accepted : Accepted system mode n s area (lineWords (systemOf system) f v n s area)
+  pub accepted : Accepted system mode n s area (lineWords (systemOf system) f v n s laid area)
   unfolding checkedOf lineFault built
   accepted = record {
     long = long-built;
     checked =
-        ap (λ (k : ℕ). checkedFrom k built) (pick-true (lowest 3 (faults (systemOf system) mode built)) 1 fits-built ∙ clear-lowest 3 (faults (systemOf system) mode built) clear-faults)
+        ap (λ (k : ℕ). checkedFrom k built) (clear-lowest (lineFaults system mode built) (ap not fits-built, clear-faults))
         ∙ ap₂ (λ (k : ℕ) (t : Settings). record { fault = 0; number = k; settings = t }) (read .number) (read .settings);
     area-back = area-built;
   }

@@ -6,16 +6,18 @@ use Prim.Native.Nat.{ℕ}
 use lib.Dec.{eqb}
 use borrow.Author.Tests.{eqb-true}
 use Rattle.lists.specs.Lists.{same}
-use Rattle.lists.proofs.Tests.{both-true, lowest-clear}
+use Rattle.lists.proofs.Tests.{both-true}
+use Rattle.lists.proofs.Refusals.{lowest-clear}
 use Rattle.line.specs.declared.settings.Settings.{Settings}
 use Rattle.line.specs.Systems.{systemOf}
 use Rattle.line.specs.Fixed.{blockRefused}
 use Rattle.line.specs.Settings.{settingsFaults, settingsFault, sameSettings}
+use Rattle.line.proofs.CheckLaws.{settings-rising}
 
 -- 12 lets the block type pass
 pub block-passes : (system : ℕ) (t : Settings) → settingsFault system t ≡ 0 → blockRefused (systemOf system .payload) (t .block) (t .flag) ≡ false
 unfolding settingsFault settingsFaults
-block-passes system t e = lowest-clear 9 (settingsFaults (systemOf system) t) e .1 .1 .0
+block-passes system t e = lowest-clear (settingsFaults (systemOf system) t) (settings-rising (systemOf system) t) e .1 .1 .0
 
 pub same-block : (t u : Settings) → sameSettings t u ≡ true → t .block ≡ u .block
 unfolding sameSettings

@@ -3,7 +3,8 @@
 use mathlib.Core.Path.{_≡_, refl, sym, ap, _∙_, subst}
 use mathlib.Core.Bool.{true}
 use mathlib.Core.List.{List}
-use Prim.Native.Nat.{ℕ, zero, suc, _+_, _≤_}
+use mathlib.Core.Logic.{_⊎_, inl, inr}
+use Prim.Native.Nat.{ℕ, zero, suc, _+_, _*_, _/_, _≤_}
 use native.Mathlib.Omega.{arith}
 use lib.Dec.{lit≤}
 use lib.ListN.{length}
@@ -25,31 +26,38 @@ no-system (suc (suc (suc (suc n)))) a b c d = refl
 pub record Sound (s : System) : Type 0 where
   pub room : s .payload + 61 ≤ s .length
   pub area : 2 ≤ s .payload
+  pub some : 3 ≤ s .payload
+  pub rates : (s .payload ≡ 1440) ⊎ (s .payload ≡ 1920)
+  pub one : 1 ≤ s .lines
   pub lines : s .lines ≤ 625
+  pub odd : s .lines ≡ 2 * (s .lines / 2) + 1
   pub code : s .code ≤ 2
 
 pub sound : (system : ℕ) → isSystem system ≡ true → Sound (systemOf system)
 unfolding isSystem
-sound zero e = record { room = lit≤ tt; area = lit≤ tt; lines = lit≤ tt; code = lit≤ tt }
-sound (suc zero) e = record { room = lit≤ tt; area = lit≤ tt; lines = lit≤ tt; code = lit≤ tt }
-sound (suc (suc zero)) e = record { room = lit≤ tt; area = lit≤ tt; lines = lit≤ tt; code = lit≤ tt }
-sound (suc (suc (suc zero))) e = record { room = lit≤ tt; area = lit≤ tt; lines = lit≤ tt; code = lit≤ tt }
+sound zero e = record { room = lit≤ tt; area = lit≤ tt; some = lit≤ tt; rates = inl refl; one = lit≤ tt; lines = lit≤ tt; odd = refl; code = lit≤ tt }
+sound (suc zero) e = record { room = lit≤ tt; area = lit≤ tt; some = lit≤ tt; rates = inl refl; one = lit≤ tt; lines = lit≤ tt; odd = refl; code = lit≤ tt }
+sound (suc (suc zero)) e = record { room = lit≤ tt; area = lit≤ tt; some = lit≤ tt; rates = inr refl; one = lit≤ tt; lines = lit≤ tt; odd = refl; code = lit≤ tt }
+sound (suc (suc (suc zero))) e = record { room = lit≤ tt; area = lit≤ tt; some = lit≤ tt; rates = inr refl; one = lit≤ tt; lines = lit≤ tt; odd = refl; code = lit≤ tt }
 sound (suc (suc (suc (suc n)))) e = absurd (omega (arith, ltb-true (suc (suc (suc (suc n)))) 4 e))
 
--- what the rows have at most, the row of no system too
+-- what every row has, the row of no system too: shown of each
+by-row : (P : System → Type 0) → P (systemOf 0) → P (systemOf 1) → P (systemOf 2) → P (systemOf 3) → P (systemOf 4) → (system : ℕ) → P (systemOf system)
+by-row P a b c d e zero = a
+by-row P a b c d e (suc zero) = b
+by-row P a b c d e (suc (suc zero)) = c
+by-row P a b c d e (suc (suc (suc zero))) = d
+by-row P a b c d e (suc (suc (suc (suc n)))) = e
+
 pub payload-most : (system : ℕ) → systemOf system .payload ≤ 1920
-payload-most zero = lit≤ tt
-payload-most (suc zero) = lit≤ tt
-payload-most (suc (suc zero)) = lit≤ tt
-payload-most (suc (suc (suc zero))) = lit≤ tt
-payload-most (suc (suc (suc (suc n)))) = lit≤ tt
+payload-most = by-row (λ s. s .payload ≤ 1920) (lit≤ tt) (lit≤ tt) (lit≤ tt) (lit≤ tt) (lit≤ tt)
 
 pub length-most : (system : ℕ) → systemOf system .length ≤ 2304
-length-most zero = lit≤ tt
-length-most (suc zero) = lit≤ tt
-length-most (suc (suc zero)) = lit≤ tt
-length-most (suc (suc (suc zero))) = lit≤ tt
-length-most (suc (suc (suc (suc n)))) = lit≤ tt
+length-most = by-row (λ s. s .length ≤ 2304) (lit≤ tt) (lit≤ tt) (lit≤ tt) (lit≤ tt) (lit≤ tt)
+
+-- N is odd, where there are lines
+pub odd-lines : (system : ℕ) → 1 ≤ systemOf system .lines → systemOf system .lines ≡ 2 * (systemOf system .lines / 2) + 1
+odd-lines = by-row (λ s. 1 ≤ s .lines → s .lines ≡ 2 * (s .lines / 2) + 1) (λ l. refl) (λ l. refl) (λ l. refl) (λ l. refl) (λ l. absurd (omega arith))
 
 -- what a line that fits has
 pub record Fit (system mode : ℕ) (line : List ℕ) : Type 0 where

@@ -5,7 +5,7 @@ use mathlib.Core.Bool.{Bool, true, false, _&&_, _||_, not}
 use mathlib.Core.List.{List, [], _∷_, _++_, map}
 use lib.Dec.{eqb, leb}
 use lib.ListN.{length, getD}
-use Rattle.lists.specs.Tests.{pick, lowest}
+use Rattle.lists.specs.Tests.{pick, Refusal, when, lowestOf}
 use Rattle.lists.specs.Lists.{part, same, each}
 use Rattle.words.specs.Forms.{bit, isByte, isData}
 use Rattle.words.specs.Modes.{isMode}
@@ -65,15 +65,15 @@ unfoldable pub numbered : ℕ → List ℕ → Bool
 numbered lines line = leb 1 (numberOf line) && (leb (numberOf line) lines && eqb (low (getD line 11 0) / 4) 0)
 
 -- 3 EAV or SAV; 4 first six header words; 5 header word not in its form; 6 checksum; 7 line CRC; 8 header CRC; 9 line number
-unfoldable pub headFaults : System → List ℕ → List Bool
+unfoldable pub headFaults : System → List ℕ → List Refusal
 headFaults s line =
-    not (timed (savAt s) line)
-    ∷ not (same (part 4 6 line) (flagWords ++ idWords))
-    ∷ not (formed line)
-    ∷ not (same (part 56 1 line) (checksum (part 7 49 line) ∷ []))
-    ∷ not (crcStands 7 5 line)
-    ∷ not (crcStands 14 40 line)
-    ∷ not (numbered (s .lines) line)
+    when 3 (not (timed (savAt s) line))
+    ∷ when 4 (not (same (part 4 6 line) (flagWords ++ idWords)))
+    ∷ when 5 (not (formed line))
+    ∷ when 6 (not (same (part 56 1 line) (checksum (part 7 49 line) ∷ [])))
+    ∷ when 7 (not (crcStands 7 5 line))
+    ∷ when 8 (not (crcStands 14 40 line))
+    ∷ when 9 (not (numbered (s .lines) line))
     ∷ []
 
 -- ---- 15 and 16
@@ -82,16 +82,16 @@ unfoldable pub legal : ℕ → Bool → ℕ → Bool
 legal mode variable w = pick (eqb mode 8) (isByte w) (isData w) || (variable && (eqb w separator || eqb w endCode))
 
 -- 15 area word not legal, or CRC word not data form; 16 payload CRC
-unfoldable pub areaFaults : ℕ → Bool → ℕ → List ℕ → List ℕ → List Bool
+unfoldable pub areaFaults : ℕ → Bool → ℕ → List ℕ → List ℕ → List Refusal
 areaFaults mode variable flag area end =
-    not (each (legal mode variable) area && each isData end) ∷ not (same end (endWords flag area)) ∷ []
+    when 15 (not (each (legal mode variable) area && each isData end)) ∷ when 16 (not (same end (endWords flag area))) ∷ []
 
-unfoldable pub payloadFaults : System → ℕ → ℕ → ℕ → List ℕ → List Bool
+unfoldable pub payloadFaults : System → ℕ → ℕ → ℕ → List ℕ → List Refusal
 payloadFaults s mode block flag line = areaFaults mode (isVariable block) flag (areaOf s flag line) (endOf s flag line)
 
 -- ---- the lowest number whose condition holds
 -- 3 to 9, 10 to 14, 15 and 16: of any system, by its L, P, N and code
-unfoldable pub faults : System → ℕ → List ℕ → List Bool
+unfoldable pub faults : System → ℕ → List ℕ → List Refusal
 faults row mode line =
     let t = settingsOf line in
     headFaults row line ++ (settingsFaults row t ++ payloadFaults row mode (t .block) (t .flag) line)
@@ -103,8 +103,12 @@ fitsLength system mode n = isSystem system && (isMode mode && eqb n (systemOf sy
 abbrev pub fits : ℕ → ℕ → List ℕ → Bool
 fits system mode line = fitsLength system mode (length line)
 
+-- 1, then 3 to 16
+abbrev pub lineFaults : ℕ → ℕ → List ℕ → List Refusal
+lineFaults system mode line = when 1 (not (fits system mode line)) ∷ faults (systemOf system) mode line
+
 unfoldable pub lineFault : ℕ → ℕ → List ℕ → ℕ
-lineFault system mode line = pick (fits system mode line) (lowest 3 (faults (systemOf system) mode line)) 1
+lineFault system mode line = lowestOf (lineFaults system mode line)
 
 -- ---- what the check answers: the fault, or 0 with the number and the settings that stand there
 abbrev pub faultyWith : ℕ → Checked

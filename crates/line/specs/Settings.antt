@@ -6,7 +6,7 @@ use mathlib.Core.List.{List, [], _∷_}
 use mathlib.Core.Path.{_≡_}
 use lib.Dec.{eqb, ltb}
 use lib.ListN.{length, replicate}
-use Rattle.lists.specs.Tests.{lowest}
+use Rattle.lists.specs.Tests.{Refusal, when, lowestOf}
 use Rattle.lists.specs.Lists.{same, each}
 use Rattle.line.specs.declared.settings.Settings.{Settings}
 use Rattle.line.specs.declared.systems.System.{System}
@@ -32,18 +32,18 @@ pub record Held (s : Settings) : Type 0 where
   pub flag-byte : s .flag < 256
 
 -- 10: code not the system's; 11: AAI, which is 0 or 1; 12: block type; 13: flag, which is 00h or 01h; 14: a reserved word, each 0
-unfoldable pub settingsFaults : System → Settings → List Bool
+unfoldable pub settingsFaults : System → Settings → List Refusal
 settingsFaults row s =
-    not (eqb (s .code) (row .code))
-    ∷ ltb 1 (s .aai)
-    ∷ blockRefused (row .payload) (s .block) (s .flag)
-    ∷ ltb 1 (s .flag)
-    ∷ not (each (eqb 0) (s .reserved))
+    when 10 (not (eqb (s .code) (row .code)))
+    ∷ when 11 (ltb 1 (s .aai))
+    ∷ when 12 (blockRefused (row .payload) (s .block) (s .flag))
+    ∷ when 13 (ltb 1 (s .flag))
+    ∷ when 14 (not (each (eqb 0) (s .reserved)))
     ∷ []
 
 -- the lowest of 10 to 14 that holds, or 0
 unfoldable pub settingsFault : ℕ → Settings → ℕ
-settingsFault system s = lowest 10 (settingsFaults (systemOf system) s)
+settingsFault system s = lowestOf (settingsFaults (systemOf system) s)
 
 -- the settings are equal, the five reserved bytes too
 unfoldable pub sameSettings : Settings → Settings → Bool

@@ -9,7 +9,7 @@ ghost use mathlib.Core.Bool.{not};
 ghost use Prim.Native.Nat.{_+_, _≤_};
 ghost use lib.Dec.{eqb};
 ghost use lib.ListN.{length};
-ghost use Rattle.lists.specs.Tests.{lowest};
+ghost use Rattle.lists.specs.Tests.{lowestOf};
 ghost use Rattle.lists.specs.Lists.{same, each};
 ghost use Rattle.line.specs.Layout.{endWords};
 ghost use Rattle.line.specs.Check.{legal, areaFaults, payloadFaults};
@@ -48,13 +48,13 @@ fn end_stands(flag: u8, area: &[u16], end: &[u16]) -> bool
     if flag != 1 {
         return lists::same_words(end, &[0u16; 0]);
     }
-    let c = words::crc::crc_of(262143, area);
-    lists::same_words(end, &[words::crc::crc_low(c), words::crc::crc_high(c)])
+    let c = words::crc::crc_of(words::crc::CRC_START, area);
+    lists::same_words(end, &words::crc::crc_words(c))
 }
 
 // The lowest of 15 and 16 that holds of an area and what stands behind it, or 0.
 fn area_fault(mode: u8, variable: bool, flag: u8, area: &[u16], end: &[u16]) -> u8
-    ensures { λ r. ⌜ r ≡ lowest 15 (areaFaults mode variable flag (now (area .entry)) (now (end .entry))) ⌝ }
+    ensures { λ r. ⌜ r ≡ lowestOf (areaFaults mode variable flag (now (area .entry)) (now (end .entry))) ⌝ }
 {
     let legal = all_legal(mode, variable, area);
     let formed = head::all_data(end);
@@ -65,7 +65,7 @@ fn area_fault(mode: u8, variable: bool, flag: u8, area: &[u16], end: &[u16]) -> 
 // The same of a line of the system's length, with that block type and flag.
 pub(crate) fn payload_fault(s: System, mode: u8, block: u8, flag: u8, line: &[u16]) -> u8
     requires { ⌜ (s .payload + 61 ≤ s .length) × (s .length ≡ length (now line)) ⌝ }
-    ensures { λ r. ⌜ r ≡ lowest 15 (payloadFaults s mode block flag (now (line .entry))) ⌝ }
+    ensures { λ r. ⌜ r ≡ lowestOf (payloadFaults s mode block flag (now (line .entry))) ⌝ }
 {
     let start = s.length - s.payload;
     let end = start + layout::area_length(s.payload, flag);

@@ -7,7 +7,7 @@ use crate::settings::Settings;
 use crate::systems;
 ghost use mathlib.Core.Path.{_≡_};
 ghost use mathlib.Core.Bool.{true};
-ghost use Rattle.lists.specs.Tests.{lowest};
+ghost use Rattle.lists.specs.Tests.{lowestOf};
 ghost use Rattle.line.specs.Systems.{systemOf};
 ghost use Rattle.line.specs.Check.{settingsOf, faults, fitsLength, fits, faultyWith, checkedOf};
 
@@ -30,7 +30,7 @@ pub fn is_fit(system: u8, mode: u8, length: usize) -> bool
 // The lowest of 3 to 16 that holds of a line that fits, or 0.
 fn fault_of(system: u8, mode: u8, t: Settings, line: &[u16]) -> u8
     requires { ⌜ (fits system mode (now line) ≡ true) × (t ≡ settingsOf (now line)) ⌝ }
-    ensures { λ r. ⌜ r ≡ lowest 3 (faults (systemOf system) mode (now (line .entry))) ⌝ }
+    ensures { λ r. ⌜ r ≡ lowestOf (faults (systemOf system) mode (now (line .entry))) ⌝ }
 {
     let s = systems::system_of(system);
     let r3 = head::head_fault(s, line);

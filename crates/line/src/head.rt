@@ -6,7 +6,7 @@ ghost use mathlib.Core.Path.{_≡_};
 ghost use mathlib.Core.List.{map};
 ghost use Prim.Native.Nat.{_+_, _-_, _≤_};
 ghost use lib.ListN.{length};
-ghost use Rattle.lists.specs.Tests.{lowest};
+ghost use Rattle.lists.specs.Tests.{lowestOf};
 ghost use Rattle.lists.specs.Lists.{part, same, each};
 ghost use Rattle.words.specs.Forms.{isByte, isData};
 ghost use Rattle.words.specs.Crc.{crcWords};
@@ -112,12 +112,9 @@ fn crc_stands(line: &[u16], a: usize, e: usize) -> bool
     requires { ⌜ (a ≤ e) × (e + 2 ≤ length (now line)) ⌝ }
     ensures { λ r. ⌜ r ≡ same (part e 2 (now (line .entry))) (crcWords (part a (e - a) (now (line .entry)))) ⌝ }
 {
-    let c = words::crc::crc_of(262143, &line[a..e]);
+    let c = words::crc::crc_of(words::crc::CRC_START, &line[a..e]);
     let end = e + 2;
-    lists::same_words(
-        &line[e..end],
-        &[words::crc::crc_low(c), words::crc::crc_high(c)],
-    )
+    lists::same_words(&line[e..end], &words::crc::crc_words(c))
 }
 
 // The number is 1..N, and B7-B2 of its second word are 0.
@@ -133,7 +130,7 @@ fn is_numbered(lines: u16, line: &[u16]) -> bool
 // The lowest of 3 to 9 that holds of a line of the system's length, or 0: from the last condition to the first.
 pub(crate) fn head_fault(s: System, line: &[u16]) -> u8
     requires { ⌜ (s .payload + 61 ≤ s .length) × (s .length ≡ length (now line)) ⌝ }
-    ensures { λ r. ⌜ r ≡ lowest 3 (headFaults s (now (line .entry))) ⌝ }
+    ensures { λ r. ⌜ r ≡ lowestOf (headFaults s (now (line .entry))) ⌝ }
 {
     let sav = s.length - s.payload - 4;
     let sum = words::checksum::checksum_of(&line[7..56]);

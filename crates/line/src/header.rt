@@ -50,8 +50,8 @@ fn lay_crc(words: [u16; 53], a: usize, e: usize) -> [u16; 53]
     requires { ⌜ (length words ≡ 53) × (a ≤ e) × (e + 2 ≤ 53) ⌝ }
     ensures { λ r. ⌜ Laid e (crcWords (part a (e - a) words)) words r ⌝ }
 {
-    let c = words::crc::crc_of(262143, &words[a..e]);
-    lay_words(words, e, &[words::crc::crc_low(c), words::crc::crc_high(c)])
+    let c = words::crc::crc_of(words::crc::CRC_START, &words[a..e]);
+    lay_words(words, e, &words::crc::crc_words(c))
 }
 
 // The 53 header words.

@@ -2,16 +2,17 @@
 -- Assumes nothing.
 use mathlib.Core.Path.{_≡_, refl, sym, ap, ap₂, _∙_}
 use mathlib.Core.Bool.{Bool, true, false, _&&_}
-use mathlib.Core.List.{List, [], _∷_, _++_, append-assoc, append-nil}
+use mathlib.Core.List.{List, [], _∷_, _++_, map, append-assoc, append-nil}
 use Prim.Native.Nat.{ℕ, suc, _+_, _-_, _<_, _≤_}
 use native.Mathlib.Nat.{add-zero, add-assoc}
 use native.Mathlib.Numerals.{add-one}
 use native.Mathlib.Omega.{arith}
 use lib.Dec.{eqb}
-use lib.ListN.{length, getD, take, drop, set, drop-of-length-le}
+use lib.ListN.{length, getD, take, drop, set, length-set, length-map, drop-of-length-le}
 use lib.Seq.{drop-cons, drop-drop, take-suc, take-suc-set, take-all, paste}
 use borrow.Rule.Slice.PartMut.{putMid}
 use Rattle.lists.specs.Lists.{same, each}
+use Rattle.lists.proofs.Lists.{getD-map-in}
 
 pub next-drop : (s : List ℕ) (i : ℕ) → i < length s → drop i s ≡ getD s i 0 ∷ drop (i + 1) s
 next-drop s i h = drop-cons s i 0 h ∙ ap (λ (k : ℕ). getD s i 0 ∷ drop k s) (sym (add-one i))
@@ -29,6 +30,21 @@ each-next f ok i s h = and-next ok (f (getD s i 0)) (each f (drop (i + 1) s)) �
 
 pub each-end : (f : ℕ → Bool) (ok : Bool) (i : ℕ) (s : List ℕ) → length s ≤ i → ok ≡ (ok && each f (drop i s))
 each-end f ok i s h = sym (ap (λ (l : List ℕ). ok && each f l) (drop-of-length-le s h) ∙ and-end ok)
+
+-- a loop that tests each: ok says it of the first i
+pub record Testing (f : ℕ → Bool) (s : List ℕ) (ok : Bool) (i : ℕ) : Type 0 where
+  pub within : i ≤ length s
+  pub is : (ok && each f (drop i s)) ≡ each f s
+
+pub test-start : (f : ℕ → Bool) (s : List ℕ) → Testing f s true 0
+test-start f s = record { within = omega arith; is = refl }
+
+pub test-turn : (f : ℕ → Bool) (s : List ℕ) (ok b : Bool) (i : ℕ) → Testing f s ok i → i < length s → b ≡ f (getD s i 0) → Testing f s (ok && b) (i + 1)
+test-turn f s ok b i t h e =
+    record { within = omega arith; is = ap (λ (x : Bool). (ok && x) && each f (drop (i + 1) s)) e ∙ each-next f ok i s h ∙ t .is }
+
+pub test-end : (f : ℕ → Bool) (s : List ℕ) (ok : Bool) (i : ℕ) → Testing f s ok i → length s ≤ i → ok ≡ each f s
+test-end f s ok i t h = each-end f ok i s h ∙ t .is
 
 pub same-next : (ok : Bool) (i : ℕ) (s t : List ℕ) → i < length s → i < length t
     → ((ok && eqb (getD s i 0) (getD t i 0)) && same (drop (i + 1) s) (drop (i + 1) t)) ≡ (ok && same (drop i s) (drop i t))
@@ -62,6 +78,37 @@ copy-next i v out ys h k e t = store-next out i v h ∙ ap₂ (λ (l : List ℕ)
 
 pub copy-end : (i : ℕ) (out ys : List ℕ) → length out ≤ i → length ys ≤ i → take i out ≡ take i ys → out ≡ ys
 copy-end i out ys h k t = sym (take-all i out h) ∙ t ∙ take-all i ys k
+
+-- a loop that fills: out, which was d, has the first i of the words ws
+pub record Filling (ws d out : List ℕ) (i : ℕ) : Type 0 where
+  pub is : take i out ≡ take i ws
+  pub same : length out ≡ length d
+  pub long : length d ≡ length ws
+
+pub fill-start : (ws d : List ℕ) → length d ≡ length ws → Filling ws d d 0
+fill-start ws d e = record { is = refl; same = refl; long = e }
+
+pub fill-turn : (ws d out : List ℕ) (i x : ℕ) → Filling ws d out i → i < length ws → x ≡ getD ws i 0 → Filling ws d (set out i x) (i + 1)
+fill-turn ws d out i x f h e =
+    record {
+      is = copy-next i x out ws (omega (arith, f .same, f .long)) h e (f .is);
+      same = length-set out i x ∙ f .same;
+      long = f .long;
+    }
+
+pub fill-end : (ws d out : List ℕ) (i : ℕ) → Filling ws d out i → length ws ≤ i → out ≡ ws
+fill-end ws d out i f h = copy-end i out ws (omega (arith, f .same, f .long)) h (f .is)
+
+-- with what a function makes of the words of src
+pub map-start : (g : ℕ → ℕ) (src d : List ℕ) → length d ≡ length src → Filling (map g src) d d 0
+map-start g src d e = fill-start (map g src) d (e ∙ sym (length-map src g))
+
+pub map-turn : (g : ℕ → ℕ) (src d out : List ℕ) (i x : ℕ) → Filling (map g src) d out i → i < length src → x ≡ g (getD src i 0)
+    → Filling (map g src) d (set out i x) (i + 1)
+map-turn g src d out i x f h e = fill-turn (map g src) d out i x f (omega (arith, length-map src g)) (e ∙ sym (getD-map-in g src i h))
+
+pub map-end : (g : ℕ → ℕ) (src d out : List ℕ) (i : ℕ) → Filling (map g src) d out i → length src ≤ i → out ≡ map g src
+map-end g src d out i f h = fill-end (map g src) d out i f (omega (arith, length-map src g))
 
 pub lay-next : (at i v : ℕ) (out before ys : List ℕ) → at + i < length out → i < length ys → v ≡ getD ys i 0
     → take (at + i) out ≡ take at before ++ take i ys → take (at + (i + 1)) (set out (at + i) v) ≡ take at before ++ take (i + 1) ys

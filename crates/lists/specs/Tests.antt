@@ -1,19 +1,14 @@
--- A choice by a test, and the lowest number whose condition holds.
+-- A choice by a test, and refusals: each has its number, and the lowest whose condition holds is given.
 -- Assumes nothing.
 use Prim.Native.Nat.{ℕ, zero, suc}
-use mathlib.Core.Bool.{Bool, true, false}
+use mathlib.Core.Bool.{Bool, true, false, _&&_, _||_}
 use mathlib.Core.List.{List, [], _∷_}
+use lib.Dec.{eqb, ltb}
 
 -- the first where the test holds, else the second
 unfoldable pub pick : {A : Type 0} → Bool → A → A → A
 pick true a b = a
 pick false a b = b
-
--- the lowest number whose condition holds, the first condition being number n; 0 where none holds
-abbrev pub lowest : ℕ → List Bool → ℕ
-lowest n [] = 0
-lowest n (true ∷ cs) = n
-lowest n (false ∷ cs) = lowest (suc n) cs
 
 -- the first number unless it is 0, which says that nothing was found: then the second
 abbrev pub orNext : ℕ → ℕ → ℕ
@@ -32,3 +27,17 @@ when n b = record { number = n; holds = b }
 abbrev pub lowestOf : List Refusal → ℕ
 lowestOf [] = 0
 lowestOf (r ∷ rs) = pick (r .holds) (r .number) (lowestOf rs)
+
+-- the numbers rise strictly, from above n on
+abbrev pub risingFrom : ℕ → List Refusal → Bool
+risingFrom n [] = true
+risingFrom n (r ∷ rs) = ltb n (r .number) && risingFrom (r .number) rs
+
+-- the numbers rise strictly, and none is 0
+abbrev pub rising : List Refusal → Bool
+rising rs = risingFrom 0 rs
+
+-- a refusal of the number n is among them, and its condition holds
+abbrev pub holdsAt : ℕ → List Refusal → Bool
+holdsAt n [] = false
+holdsAt n (r ∷ rs) = (eqb n (r .number) && r .holds) || holdsAt n rs

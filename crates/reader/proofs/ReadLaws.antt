@@ -2,13 +2,15 @@
 -- Assumes nothing.
 use mathlib.Core.Path.{_≡_, refl, sym, ap, ap₂, _∙_}
 use mathlib.Core.Bool.{true, false, _&&_, not}
-use mathlib.Core.List.{List}
+use mathlib.Core.List.{List, [], _∷_}
 use Prim.Native.Nat.{ℕ, _+_, _-_, _*_, _/_, _≤_}
 use native.Mathlib.Omega.{arith}
 use lib.Dec.{eqb}
 use lib.ListN.{length, take, drop}
 use borrow.Author.Tests.{eqb-true, ne-eqb, not-false}
-use Rattle.lists.proofs.Tests.{both-true, pick-true, pick-false}
+use Rattle.lists.specs.Tests.{when}
+use Rattle.lists.proofs.Tests.{both-true, pick-false}
+use Rattle.lists.proofs.Refusals.{low-none, low-hit, low-miss}
 use Rattle.line.specs.declared.systems.System.{System}
 use Rattle.line.specs.Systems.{systemOf, isSystem}
 use Rattle.line.specs.Fixed.{isVariable, placesOf, sizeOf}
@@ -107,15 +109,15 @@ module _ {c : ℕ} (st : Reader) (q : ℕ) (line room : List ℕ) (at : st .plac
 module _ (c : ℕ) (st : Reader) (long room : ℕ) where
   pub fault-1 : (fitsLength (st .system) (st .mode) long && eqb room c) ≡ false → 1 ≡ readFaultIn c st long room
   unfolding readFaultIn
-  fault-1 e = sym (pick-true _ _ (ap not e))
+  fault-1 e = low-hit 1 {rs = when 2 (impossibleIn c st) ∷ []} (ap not e) .is
 
   pub fault-2 : (fitsLength (st .system) (st .mode) long && eqb room c) ≡ true → impossibleIn c st ≡ true → 2 ≡ readFaultIn c st long room
   unfolding readFaultIn
-  fault-2 e f = sym (pick-false _ _ (ap not e) ∙ pick-true _ _ f)
+  fault-2 e f = low-miss 1 (ap not e) (low-hit 2 {rs = []} f) .is
 
   pub fault-0 : (fitsLength (st .system) (st .mode) long && eqb room c) ≡ true → impossibleIn c st ≡ false → 0 ≡ readFaultIn c st long room
   unfolding readFaultIn
-  fault-0 e f = sym (pick-false _ _ (ap not e) ∙ pick-false _ _ f)
+  fault-0 e f = low-miss 1 (ap not e) (low-miss 2 f low-none) .is
 
 -- no fault 1 or 2: the capacity is the room's own length
 pub own-capacity : (c : ℕ) (st : Reader) (line room : List ℕ) → readFaultIn c st (length line) (length room) ≡ 0

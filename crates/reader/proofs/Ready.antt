@@ -1,14 +1,15 @@
 -- What a call that is not refused with 1 or 2 has: a state that is possible, and words from its place on.
 -- Assumes nothing.
 use mathlib.Core.Path.{_≡_, refl, sym, ap, _∙_}
-use mathlib.Core.Bool.{true, false, _&&_, not}
+use mathlib.Core.Bool.{true, false, not}
 use mathlib.Core.List.{List}
 use Prim.Native.Nat.{ℕ, _+_, _-_, _≤_}
 use native.Mathlib.Omega.{arith}
-use lib.Dec.{eqb}
 use lib.ListN.{length}
 use borrow.Author.Tests.{eqb-true, not-false}
-use Rattle.lists.proofs.Tests.{or-false, false-or, passed, or-right, both-true}
+use Rattle.lists.specs.Tests.{rising}
+use Rattle.lists.proofs.Tests.{or-false, false-or, or-right, both-true}
+use Rattle.lists.proofs.Refusals.{lowest-clear}
 use Rattle.lists.proofs.Lists.{length-part}
 use Rattle.course.specs.declared.Place.{Place}
 use Rattle.course.specs.declared.Place.the-variants.{At}
@@ -22,7 +23,7 @@ use Rattle.course.proofs.CourseLaws.{end-in-area, placed-end, Begun, begun, beg
 use Rattle.machine.specs.Phases.{isBusy, misphased}
 use Rattle.reader.specs.declared.state.Reader.{Reader}
 use Rattle.reader.specs.State.{impossibleIn}
-use Rattle.reader.specs.Reading.{wordsFrom, readFaultIn}
+use Rattle.reader.specs.Reading.{wordsFrom, readFaultsIn, readFaultIn}
 
 -- ---- the two parts of the rule
 pub course-of : (c : ℕ) (st : Reader) → impossibleIn c st ≡ false → impossibleAfter (st .system) (st .last) (st .settings) (st .place) (isBusy (st .phase)) ≡ false
@@ -37,6 +38,10 @@ pub possible-by : (c : ℕ) (st : Reader) → Begun (st .system) (st .last) (st 
 unfolding impossibleIn
 possible-by c st b e = false-or (begun-possible (st .system) (st .last) (st .settings) (st .place) (isBusy (st .phase)) b) e
 
+-- the numbers rise, whatever the conditions are: the answer is the lowest whose condition holds
+pub read-rising : (c : ℕ) (st : Reader) (long room : ℕ) → rising (readFaultsIn c st long room) ≡ true
+read-rising c st long room = refl
+
 -- what no fault 1 or 2 says, c being the capacity
 pub record ReadyIn (c : ℕ) (st : Reader) (line room : List ℕ) : Type 0 where
   pub fit : fits (st .system) (st .mode) line ≡ true
@@ -46,9 +51,9 @@ pub record ReadyIn (c : ℕ) (st : Reader) (line room : List ℕ) : Type 0 where
 pub ready : (c : ℕ) (st : Reader) (line room : List ℕ) → readFaultIn c st (length line) (length room) ≡ 0 → ReadyIn c st line room
 unfolding readFaultIn
 ready c st line room e =
-    let a = passed 0 (not (fits (st .system) (st .mode) line && eqb (length room) c)) _ e in
+    let a = lowest-clear (readFaultsIn c st (length line) (length room)) (read-rising c st (length line) (length room)) e in
     let b = both-true (fits (st .system) (st .mode) line) _ (not-false _ (a .0)) in
-    record { fit = b .0; long = eqb-true _ _ (b .1); state = passed 1 (impossibleIn c st) 0 (a .1) .0 }
+    record { fit = b .0; long = eqb-true _ _ (b .1); state = a .1 .0 }
 
 module _ {c : ℕ} (st : Reader) (q : ℕ) (line room : List ℕ) (at : st .place ≡ At q) (r : ReadyIn c st line room) where
   abbrev payload : ℕ

@@ -3,14 +3,14 @@
 use mathlib.Core.Path.{_≡_, refl, sym, ap, _∙_, subst}
 use mathlib.Core.Bool.{Bool, true, false, _&&_, not}
 use mathlib.Core.List.{List, _++_}
-use mathlib.Core.Logic.{⊎-elim}
 use Prim.Native.Nat.{ℕ, zero, suc, _+_, _-_, _/_}
 use native.Mathlib.Omega.{arith}
 use lib.Dec.{eqb, leb}
 use lib.ListN.{length, getD}
 use borrow.Author.Tests.{eqb-true, not-false}
-use Rattle.lists.specs.Tests.{pick, lowest}
-use Rattle.lists.proofs.Tests.{lowest-or, not-2, or-left, both-true, and-true, picked, pick-true, pick-false, lowest-clear, clear-lowest, clear-split}
+use Rattle.lists.specs.Tests.{pick}
+use Rattle.lists.proofs.Tests.{true-false, or-left, false-or, both-true, and-true, pick-true, pick-false}
+use Rattle.lists.proofs.Refusals.{given-holds, lowest-clear, clear-lowest, clear-split}
 use Rattle.line.specs.declared.settings.Settings.{Settings}
 use Rattle.line.specs.declared.check.Checked.{Checked}
 use Rattle.course.specs.declared.Place.{Place}
@@ -18,8 +18,9 @@ use Rattle.course.specs.declared.Place.the-variants.{Shut, At}
 use Rattle.line.specs.Systems.{systemOf}
 use Rattle.line.specs.Fixed.{isVariable, placesOf, sizeOf}
 use Rattle.line.specs.Settings.{settingsFaults, settingsFault, sameSettings}
-use Rattle.line.specs.Check.{low, numberOf, settingsOf, numbered, headFaults, payloadFaults, faults, fits, lineFault, checkedFrom, checkedOf}
+use Rattle.line.specs.Check.{low, numberOf, settingsOf, numbered, headFaults, payloadFaults, faults, lineFaults, lineFault, checkedFrom, checkedOf}
 use Rattle.course.specs.Course.{isAt, misplaced}
+use Rattle.line.proofs.CheckLaws.{check-rising, fault-not-2}
 use Rattle.line.proofs.SettingsLaws.{same-block}
 use Rattle.course.proofs.CourseLaws.{start-placed, variable-placed, grid-next, grid-left, begun}
 use Rattle.machine.specs.declared.phase.Phase.{Phase}
@@ -35,7 +36,7 @@ use Rattle.reader.specs.declared.state.Event.the-variants.{Refused, Begu
 use Rattle.reader.specs.declared.state.Told.{Told}
 use Rattle.reader.specs.Jump.{jumpFrom, isZero}
 use Rattle.reader.specs.State.{fresh, impossibleIn}
-use Rattle.reader.specs.Reading.{Call, refused, goesOn, begun as beginning, starts, wordsFrom, walkFrom, toldBy, goesFrom, readFaultIn, readFrom, readingIn}
+use Rattle.reader.specs.Reading.{Call, refused, goesOn, begun as beginning, starts, wordsFrom, walkFrom, toldBy, goesFrom, readFaultsIn, readFaultIn, readFrom, readingIn}
 use Rattle.machine.proofs.Kept.{and-none, walk-kept, places-along}
 use Rattle.reader.proofs.Ready.{course-of, phase-of, possible-by, ReadyIn, ready, at-q, in-end, words-long}
 
@@ -57,14 +58,13 @@ checked-by system mode line zero is e =
     let t = settingsOf line in
     let n = numberOf line in
     let behind = payloadFaults row mode (t .block) (t .flag) line in
-    let p = picked (fits system mode line) (lowest 3 (faults row mode line)) is in
-    let k = clear-split (headFaults row line) (settingsFaults row t ++ behind) (lowest-clear 2 (faults row mode line) (p .1)) in
+    let k = clear-split (headFaults row line) (settingsFaults row t ++ behind) (lowest-clear (lineFaults system mode line) (check-rising system mode line) is .1) in
     let upper = leb n (row .lines) in
     let high = eqb (low (getD line 11 0) / 4) 0 in
     let m = both-true (leb 1 n) (upper && high) (not-false _ (k .0 .1 .1 .1 .1 .1 .1 .0)) in
     record {
       range = ap not (and-true (m .0) (both-true upper high (m .1) .0));
-      clean = clear-lowest 10 (settingsFaults row t) (clear-split (settingsFaults row t) behind (k .1) .0);
+      clean = clear-lowest (settingsFaults row t) (clear-split (settingsFaults row t) behind (k .1) .0);
     }
 
 checked-sound : (system mode : ℕ) (line : List ℕ) → checkedOf system mode line .fault ≡ 0 → Sound system (checkedOf system mode line)
@@ -218,12 +218,6 @@ fault-from : (n : ℕ) (line : List ℕ) → checkedFrom n line .fault ≡ n
 fault-from zero line = refl
 fault-from (suc n) line = refl
 
-line-2 : (system mode : ℕ) (line : List ℕ) → lineFault system mode line ≡ 2 → ⊥
-unfolding lineFault
-line-2 system mode line =
-    not-2 (fits system mode line) (lowest 3 (faults (systemOf system) mode line)) 1
-    (λ e. ⊎-elim (λ z. omega arith) (λ h. omega arith) (lowest-or 3 (faults (systemOf system) mode line))) (λ z. omega arith)
-
 refusal-by : (b : Bool) (x y : Told) → (refusal (x .event) ≡ 2 → ⊥) → (refusal (y .event) ≡ 2 → ⊥) → refusal (pick b x y .event) ≡ 2 → ⊥
 unfolding pick
 refusal-by true x y h k e = h e
@@ -232,7 +226,7 @@ refusal-by false x y h k e = k e
 start-2 : (st : Reader) (mode : ℕ) (line : List ℕ) → refusal (starts st (checkedOf (st .system) mode line) .event) ≡ 2 → ⊥
 unfolding starts beginning checkedOf
 start-2 st mode line =
-    refusal-by _ _ _ (λ z. omega arith) (λ z. line-2 (st .system) mode line (sym (fault-from (lineFault (st .system) mode line) line) ∙ z))
+    refusal-by _ _ _ (λ z. omega arith) (λ z. fault-not-2 (st .system) mode line (sym (fault-from (lineFault (st .system) mode line) line) ∙ z))
 
 told-2 : (st : Reader) (q : ℕ) (p : Phase) (met : Met) → refusal (toldBy st q p met .event) ≡ 2 → ⊥
 told-2 st q p Nothing e = omega arith
@@ -250,7 +244,7 @@ call-2 false x y h k e = k e
 
 fault-2 : (c : ℕ) (st : Reader) (long room : ℕ) → impossibleIn c st ≡ false → readFaultIn c st long room ≡ 2 → ⊥
 unfolding readFaultIn
-fault-2 c st long room e = not-2 _ 1 _ (λ z. omega arith) (λ z. absurd (let k : 0 ≡ 2 = sym (pick-false 2 0 e) ∙ z in omega arith))
+fault-2 c st long room e z = true-false (sym (given-holds 2 (readFaultsIn c st long room) z (λ x. omega arith)) ∙ false-or e refl)
 
 pub never-2 : (c : ℕ) (st : Reader) → impossibleIn c st ≡ false → (line room : List ℕ) (d : Bool) → readingIn c st line room .told .event ≡ Refused 2 d → ⊥
 unfolding readingIn

@@ -5,7 +5,7 @@ use mathlib.Core.Bool.{Bool, false, _&&_, not}
 use mathlib.Core.List.{List, [], _∷_}
 use lib.Dec.{eqb}
 use lib.ListN.{length}
-use Rattle.lists.specs.Tests.{pick, when, lowestOf}
+use Rattle.lists.specs.Tests.{pick, Refusal, when, lowestOf}
 use Rattle.lists.specs.Lists.{part}
 use Rattle.line.specs.declared.settings.Settings.{Settings}
 use Rattle.line.specs.declared.check.Checked.{Checked}
@@ -90,8 +90,11 @@ goesFrom st q x = call (toldBy st (q + x .answer .taken) (x .answer .phase) (x .
 
 -- ---- the call
 -- 1: unknown system or mode, line not L long, room not c; 2: state not possible. The capacity c is 16,384.
+abbrev pub readFaultsIn : ℕ → Reader → ℕ → ℕ → List Refusal
+readFaultsIn c st long room = when 1 (not (fitsLength (st .system) (st .mode) long && eqb room c)) ∷ when 2 (impossibleIn c st) ∷ []
+
 unfoldable pub readFaultIn : ℕ → Reader → ℕ → ℕ → ℕ
-readFaultIn c st long room = lowestOf (when 1 (not (fitsLength (st .system) (st .mode) long && eqb room c)) ∷ when 2 (impossibleIn c st) ∷ [])
+readFaultIn c st long room = lowestOf (readFaultsIn c st long room)
 
 abbrev pub readFault : Reader → ℕ → ℕ → ℕ
 readFault st long room = readFaultIn capacity st long room

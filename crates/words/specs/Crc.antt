@@ -42,15 +42,11 @@ unfolding crcBits bitsOf
 crcOf c ws = crcBits c (bitsOf ws)
 
 -- the two words of a register: C8-C0 in B8-B0, then C17-C9, each in data form
-unfoldable pub crcLow : ℕ → ℕ
+unfoldable pub registerWords : ℕ → List ℕ
 unfolding dataWord
-crcLow c = dataWord (c % 512)
-
-unfoldable pub crcHigh : ℕ → ℕ
-unfolding dataWord
-crcHigh c = dataWord (c / 512 % 512)
+registerWords c = dataWord (c % 512) ∷ dataWord (c / 512 % 512) ∷ []
 
 -- the two CRC words of words, from the start
 unfoldable pub crcWords : List ℕ → List ℕ
-unfolding crcOf crcLow crcHigh
-crcWords ws = crcLow (crcOf crcStart ws) ∷ crcHigh (crcOf crcStart ws) ∷ []
+unfolding crcOf registerWords
+crcWords ws = registerWords (crcOf crcStart ws)

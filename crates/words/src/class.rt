@@ -3,6 +3,11 @@ use crate::forms;
 ghost use mathlib.Core.Path.{_≡_};
 ghost use Rattle.words.specs.Class.{classOf, isCode};
 
+// The separator of a block, and its end code.
+pub const SEPARATOR: u16 = 0x309;
+
+pub const END_CODE: u16 = 0x30a;
+
 pub enum Class {
     Byte, // byte form
     Other, // data form, and not byte form
@@ -21,10 +26,10 @@ pub fn class_of(w: u16) -> Class
     if forms::is_data(w) {
         return Class::Other;
     }
-    if w == 0x309 {
+    if w == SEPARATOR {
         return Class::Separator;
     }
-    if w == 0x30a {
+    if w == END_CODE {
         return Class::Ending;
     }
     Class::Illegal
@@ -34,5 +39,5 @@ pub fn class_of(w: u16) -> Class
 pub fn is_code(w: u16) -> bool
     ensures { λ r. ⌜ r ≡ isCode (classOf w) ⌝ }
 {
-    (w == 0x309) | (w == 0x30a)
+    (w == SEPARATOR) | (w == END_CODE)
 }

@@ -5,7 +5,10 @@ ghost use mathlib.Core.Path.{_≡_};
 ghost use Prim.Native.Nat.{_%_, _^_, _<_};
 ghost use lib.ListN.{length, replicate};
 ghost use Rattle.words.specs.Shifts.{fed};
-ghost use Rattle.words.specs.Crc.{crcBits, crcOf, crcLow, crcHigh, lowBits};
+ghost use Rattle.words.specs.Crc.{crcBits, crcOf, registerWords, lowBits};
+
+// The register before any word: all ones.
+pub const CRC_START: u32 = 0x3ffff;
 
 // The register after a word's ten bits.
 fn crc_word(c: u32, w: u16) -> u32
@@ -78,16 +81,11 @@ pub fn crc_of(c: u32, s: &[u16]) -> u32
     crc_each(x, &s[i..])
 }
 
-// The first CRC word of a register: C8-C0.
-pub fn crc_low(c: u32) -> u16
-    ensures { λ r. ⌜ r ≡ crcLow c ⌝ }
+// The two words of a register: C8-C0, then C17-C9.
+pub fn crc_words(register: u32) -> [u16; 2]
+    ensures { λ r. ⌜ r ≡ registerWords register ⌝ }
 {
-    forms::data_word((c % 512) as u16)
-}
-
-// The second CRC word of a register: C17-C9.
-pub fn crc_high(c: u32) -> u16
-    ensures { λ r. ⌜ r ≡ crcHigh c ⌝ }
-{
-    forms::data_word((c / 512 % 512) as u16)
+    let low = forms::data_word((register % 512) as u16);
+    let high = forms::data_word((register / 512 % 512) as u16);
+    [low, high]
 }

@@ -7,13 +7,13 @@ use Prim.Native.Nat.{ℕ, _+_, _-_, _≤_, _<_, min}
 use native.Mathlib.Numerals.{add-one}
 use native.Mathlib.Omega.{arith}
 use lib.Dec.{eqb}
-use lib.ListN.{length, set, take, drop, length-drop, drop-of-length-le}
+use lib.ListN.{length, getD, set, take, drop, length-drop, drop-of-length-le}
 use lib.Seq.{take-all, paste, sets-eq}
 use borrow.Author.Tests.{eq-eqb, ne-eqb}
 use borrow.Rule.Slice.PartMut.{putMid}
 use Rattle.lists.specs.Tests.{pick}
 use Rattle.lists.proofs.Tests.{pick-true, pick-false}
-use Rattle.words.specs.Crc.{crcOf, crcLow, crcHigh, crcWords}
+use Rattle.words.specs.Crc.{crcOf, registerWords, crcWords}
 use Rattle.line.specs.declared.systems.System.{System}
 use Rattle.course.specs.declared.Place.the-variants.{Shut, At}
 use Rattle.line.specs.Systems.{systemOf}
@@ -47,11 +47,11 @@ last-two d e x y h =
     ∙ append-nil (take e d ++ (x ∷ y ∷ []))
 
 -- what the CRC of the area is, and where it stands
-pub seal-is : (s : System) (flag : ℕ) (d : List ℕ) (crc lo hi : ℕ) → flag ≡ 1 → s .payload + 61 ≤ s .length → 2 ≤ s .payload → s .length ≡ length d
-    → crc ≡ crcOf 262143 (take (s .length - 2 - (s .length - s .payload)) (drop (s .length - s .payload) d)) → lo ≡ crcLow crc → hi ≡ crcHigh crc
+pub seal-is : (s : System) (flag : ℕ) (d two : List ℕ) (crc lo hi : ℕ) → flag ≡ 1 → s .payload + 61 ≤ s .length → 2 ≤ s .payload → s .length ≡ length d
+    → crc ≡ crcOf 262143 (take (s .length - 2 - (s .length - s .payload)) (drop (s .length - s .payload) d)) → two ≡ registerWords crc → lo ≡ getD two 0 0 → hi ≡ getD two 1 0
     → set (set d (s .length - 2) lo) (s .length - 2 + 1) hi ≡ sealed s flag d
 unfolding sealed areaLength endWords areaOf crcWords
-seal-is s flag d crc lo hi one room area long hc hlo hhi =
+seal-is s flag d two crc lo hi one room area long hc ht hlo hhi =
     let p = s .payload in
     let a = s .length - p in
     let m : s .length - 2 - a ≡ p - 2 = omega arith in
@@ -59,9 +59,10 @@ seal-is s flag d crc lo hi one room area long hc hlo hhi =
     let n : length d ≡ s .length - 2 + 2 = omega arith in
     let short = pick-true (p - 2) p (eq-eqb flag 1 one) in
     let c : crc ≡ crcOf 262143 (take (pick (eqb flag 1) (p - 2) p) (drop a d)) = hc ∙ ap (λ (x : ℕ). crcOf 262143 (take x (drop a d))) (m ∙ sym short) in
+    let t : two ≡ crcWords (take (pick (eqb flag 1) (p - 2) p) (drop a d)) = ht ∙ ap registerWords c in
     last-two d (s .length - 2) lo hi n
     ∙ ap₂ (λ (x : ℕ) (r : List ℕ). take x d ++ r) (e ∙ ap (λ (x : ℕ). a + x) (sym short))
-    (ap₂ (λ (x y : ℕ). x ∷ y ∷ []) (hlo ∙ ap crcLow c) (hhi ∙ ap crcHigh c) ∙ sym (pick-true _ [] (eq-eqb flag 1 one)))
+    (ap₂ (λ (x y : ℕ). x ∷ y ∷ []) (hlo ∙ ap (λ (l : List ℕ). getD l 0 0) t) (hhi ∙ ap (λ (l : List ℕ). getD l 1 0) t) ∙ sym (pick-true _ [] (eq-eqb flag 1 one)))
 
 -- with another flag nothing is written
 pub seal-none : (s : System) (flag : ℕ) (d : List ℕ) → (flag ≡ 1 → ⊥) → s .payload + 61 ≤ s .length → s .length ≡ length d → d ≡ sealed s flag d

@@ -1,13 +1,13 @@
--- Laws of lent parts that are filled: word by word, and by two writers one after the other.
+-- Laws of lent parts that are filled: the words of a gap and of values, and parts filled by two writers one after the other.
 -- Assumes nothing.
 use mathlib.Core.Path.{_≡_, refl, sym, ap, ap₂, _∙_}
 use mathlib.Core.Logic.{⊎-elim}
 use mathlib.Core.List.{List, [], _∷_, _++_, map}
-use Prim.Native.Nat.{ℕ, zero, suc, _+_, _-_, _%_, _≤_, _<_, min}
-use native.Mathlib.Nat.{zero-sub, sub-zero, suc-sub-suc, add-zero, add-suc, suc-add, le-of-suc-le-suc, not-suc-le-zero}
+use Prim.Native.Nat.{ℕ, zero, suc, _+_, _-_, _%_, _≤_, min}
+use native.Mathlib.Nat.{zero-sub, sub-zero, suc-sub-suc}
 use native.Mathlib.Omega.{arith}
 use lib.Dec.{eqb}
-use lib.ListN.{length, getD, set, take, drop, length-take, length-drop, length-set, drop-of-length-le}
+use lib.ListN.{length, take, drop, length-take, length-drop, drop-of-length-le}
 use lib.Seq.{length-take-le, take-all, paste}
 use borrow.Rule.Slice.PartMut.{putMid}
 use borrow.Author.Tests.{eq-eqb, ne-eqb}
@@ -15,39 +15,12 @@ use Rattle.lists.specs.Tests.{pick}
 use Rattle.lists.proofs.Tests.{lt-or-le, pick-true, pick-false}
 use Rattle.writer.proofs.Frame.{second-long, both-back}
 use Rattle.lists.proofs.Lists.{map-part}
-use Rattle.lists.proofs.Loops.{copy-next, copy-end}
 use Rattle.lists.proofs.Loops as lent
 use Rattle.words.specs.Forms.{byteWord, dataWord}
 use Rattle.words.specs.Modes.{wordOf}
-use Rattle.line.specs.Layout.{gapWord, gapWords}
+use Rattle.line.specs.Layout.{gapWord}
 
--- ---- a loop that fills: out, which was d, has the first i of the words ws
-pub record Filling (ws d out : List ℕ) (i : ℕ) : Type 0 where
-  pub is : take i out ≡ take i ws
-  pub same : length out ≡ length d
-  pub long : length d ≡ length ws
-
-pub fill-start : (ws d : List ℕ) → length d ≡ length ws → Filling ws d d 0
-fill-start ws d e = record { is = refl; same = refl; long = e }
-
-pub fill-turn : (ws d out : List ℕ) (i x : ℕ) → Filling ws d out i → i < length ws → x ≡ getD ws i 0 → Filling ws d (set out i x) (i + 1)
-fill-turn ws d out i x f h e =
-    record {
-      is = copy-next i x out ws (omega (arith, f .same, f .long)) h e (f .is);
-      same = length-set out i x ∙ f .same;
-      long = f .long;
-    }
-
-pub fill-end : (ws d out : List ℕ) (i : ℕ) → Filling ws d out i → length ws ≤ i → out ≡ ws
-fill-end ws d out i f h = copy-end i out ws (omega (arith, f .same, f .long)) h (f .is)
-
--- ---- the filler of a gap
-pub gap-at : (i n k : ℕ) → k < n → getD (gapWords i n) k 0 ≡ gapWord (i + k)
-gap-at i zero k h = absurd (not-suc-le-zero h)
-gap-at i (suc n) zero h = ap gapWord (sym (add-zero i))
-gap-at i (suc n) (suc k) h = gap-at (suc i) n k (le-of-suc-le-suc h) ∙ ap gapWord (suc-add i k ∙ sym (add-suc i k))
-
--- only an index's being odd counts
+-- ---- the filler of a gap: only an index's being odd counts
 pub gap-odd : (i k : ℕ) → gapWord (i % 2 + k) ≡ gapWord (i + k)
 unfolding gapWord
 gap-odd i k = let e : (i % 2 + k) % 2 ≡ (i + k) % 2 = omega arith in ap (λ (m : ℕ). pick (eqb m 0) 0x200 0x040) e

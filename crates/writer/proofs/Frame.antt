@@ -1,6 +1,6 @@
 -- A line laid by parts that are lent one after the other, [..a] and then [a..]; and the parts of an opened line.
 -- Assumes nothing.
-use mathlib.Core.Path.{_≡_, ap, ap₂, _∙_}
+use mathlib.Core.Path.{_≡_, sym, ap, ap₂, _∙_}
 use mathlib.Core.Bool.{Bool, true, false}
 use mathlib.Core.List.{List, _++_, append-nil}
 use Prim.Native.Nat.{ℕ, _+_, _-_, _≤_}
@@ -15,6 +15,7 @@ use Rattle.line.specs.Systems.{systemOf}
 use Rattle.line.specs.Timing.{timingWords}
 use Rattle.line.specs.Header.{headerWords}
 use Rattle.line.specs.Layout.{gapWords, framed}
+use Rattle.line.proofs.GapLaws.{gap-none}
 use Rattle.writer.specs.Opening.{openWords}
 
 -- ---- two parts of d: xs comes back for [..a]
@@ -67,3 +68,4 @@ whole-line system f v n t r d e h k =
     ++ (timingWords f v false ++ replicate (length d - 4 - 53 - (x .length - x .payload - 61) - 4) 0x200)))) e
     ∙ ap₂ (λ (g p : ℕ). timingWords f v true ++ (headerWords n t ++ (gapWords 57 g ++ (timingWords f v false ++ replicate p 0x200))))
     (gap-is (s .length) (s .payload)) (payload-is (s .length) (s .payload) (length d) h k)
+    ∙ ap (λ (g : List ℕ). timingWords f v true ++ (headerWords n t ++ (g ++ (timingWords f v false ++ replicate (s .payload) 0x200)))) (sym (gap-none s))

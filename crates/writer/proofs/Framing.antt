@@ -15,9 +15,10 @@ use Rattle.line.specs.declared.settings.Settings.{Settings}
 use Rattle.line.specs.Timing.{timingWords}
 use Rattle.line.specs.Settings.{Held}
 use Rattle.line.specs.Header.{headerWords}
-use Rattle.line.specs.Layout.{gapAt, savAt, payloadAt, gapWords, areaLength, endWords, framed, lineWords, areaOf}
+use Rattle.line.specs.Layout.{payloadAt, gapAfter, areaLength, endWords, framed, lineWords, areaOf}
 use Rattle.line.proofs.Headers.{header-length}
-use Rattle.line.proofs.Lines.{four, gap-length}
+use Rattle.line.proofs.GapLaws.{GapHolds, gap-long}
+use Rattle.line.proofs.Lines.{four}
 use Rattle.writer.specs.Closing.{sealed}
 
 -- ---- lists of filler
@@ -37,27 +38,32 @@ take-behind a n m x h k =
     let e : n ≡ length a + (n - length a) = omega arith in
     ap (λ (i : ℕ). take i (a ++ replicate m x)) e ∙ take-append-add a (replicate m x) (n - length a) ∙ ap (λ (l : List ℕ). a ++ l) (take-filler (n - length a) m x (omega arith))
 
--- ---- what stands before the payload
-pub front : System → Bool → Bool → ℕ → Settings → List ℕ
-front s f v n t = timingWords f v true ++ (headerWords n t ++ (gapWords gapAt (savAt s - gapAt) ++ timingWords f v false))
+-- ---- what stands before the payload, whatever is laid in the gap
+pub front : System → Bool → Bool → ℕ → Settings → List ℕ → List ℕ
+front s f v n t laid = timingWords f v true ++ (headerWords n t ++ (gapAfter s laid ++ timingWords f v false))
 
-module _ (s : System) (f v : Bool) (n : ℕ) (t : Settings) (held : Held t) (room : s .payload + 61 ≤ s .length) where
-  pub front-length : length (front s f v n t) ≡ payloadAt s
+module _ (s : System) (f v : Bool) (n : ℕ) (t : Settings) (laid : List ℕ) (held : Held t) (room : s .payload + 61 ≤ s .length) (holds : GapHolds s laid) where
+  pub front-length : length (front s f v n t laid) ≡ payloadAt s
   unfolding front
   front-length =
-      let gap = gapWords gapAt (savAt s - gapAt) in
+      let gap = gapAfter s laid in
       let a = length-append (timingWords f v true) (headerWords n t ++ (gap ++ timingWords f v false)) in
       let b = length-append (headerWords n t) (gap ++ timingWords f v false) in
       let c = length-append gap (timingWords f v false) in
       let d = header-length t held n in
-      let e = gap-length gapAt (savAt s - gapAt) in
+      let e = gap-long s laid holds in
       let g = four f v true in
       let h = four f v false in
       omega arith
 
-pub framed-front : (s : System) (f v : Bool) (n : ℕ) (t : Settings) (payload : List ℕ) → framed s f v n t payload ≡ front s f v n t ++ payload
+pub framed-front : (s : System) (f v : Bool) (n : ℕ) (t : Settings) (laid payload : List ℕ) → framed s f v n t laid payload ≡ front s f v n t laid ++ payload
 unfolding framed front
-framed-front s f v n t payload = sym (simp append-assoc)
+framed-front s f v n t laid payload =
+    let eav = timingWords f v true in
+    let sav = timingWords f v false in
+    let header = headerWords n t in
+    let gap = gapAfter s laid in
+    sym (append-assoc eav (header ++ (gap ++ sav)) payload ∙ ap (λ (x : List ℕ). eav ++ x) (append-assoc header (gap ++ sav) payload ∙ ap (λ (x : List ℕ). header ++ x) (append-assoc gap sav payload)))
 
 -- ---- words pasted behind a, over the filler
 pub pasted : (h a ws : List ℕ) (m x k : ℕ) → k ≤ length ws
@@ -72,21 +78,21 @@ pasted h a ws m x k le =
     ap₂ (λ (p q : List ℕ). (p ++ take k ws) ++ q) before behind ∙ simp append-assoc
 
 -- ---- closing: the area as the line has it, and its CRC behind it
-pub seals : (s : System) (f v : Bool) (n : ℕ) (t : Settings) (held : Held t) (room : s .payload + 61 ≤ s .length) (a : List ℕ)
+pub seals : (s : System) (f v : Bool) (n : ℕ) (t : Settings) (laid : List ℕ) (held : Held t) (room : s .payload + 61 ≤ s .length) (holds : GapHolds s laid) (a : List ℕ)
     → length a ≤ areaLength (s .payload) (t .flag) → areaLength (s .payload) (t .flag) ≤ s .payload
-    → sealed s (t .flag) (framed s f v n t (a ++ replicate (s .payload - length a) 0x200))
-    ≡ lineWords s f v n t (a ++ replicate (areaLength (s .payload) (t .flag) - length a) 0x200)
+    → sealed s (t .flag) (framed s f v n t laid (a ++ replicate (s .payload - length a) 0x200))
+    ≡ lineWords s f v n t laid (a ++ replicate (areaLength (s .payload) (t .flag) - length a) 0x200)
 unfolding sealed areaOf lineWords
-seals s f v n t held room a inside short =
+seals s f v n t laid held room holds a inside short =
     let k = areaLength (s .payload) (t .flag) in
-    let h = front s f v n t in
+    let h = front s f v n t laid in
     let fill = a ++ replicate (s .payload - length a) 0x200 in
     let area = a ++ replicate (k - length a) 0x200 in
-    let at : length h ≡ payloadAt s = front-length s f v n t held room in
-    let line : framed s f v n t fill ≡ h ++ fill = framed-front s f v n t fill in
+    let at : length h ≡ payloadAt s = front-length s f v n t laid held room holds in
+    let line : framed s f v n t laid fill ≡ h ++ fill = framed-front s f v n t laid fill in
     let cut : take k fill ≡ area = take-behind a k (s .payload - length a) 0x200 inside (omega arith) in
-    let body : part (payloadAt s) k (framed s f v n t fill) ≡ area =
+    let body : part (payloadAt s) k (framed s f v n t laid fill) ≡ area =
     ap (λ (l : List ℕ). part (payloadAt s) k l) line ∙ ap (take k) (drop-at h fill (payloadAt s) at) ∙ cut in
-    let before : take (payloadAt s + k) (framed s f v n t fill) ≡ h ++ area =
+    let before : take (payloadAt s + k) (framed s f v n t laid fill) ≡ h ++ area =
     ap₂ (λ (i : ℕ) (l : List ℕ). take (i + k) l) (sym at) line ∙ take-append-add h fill k ∙ ap (λ (l : List ℕ). h ++ l) cut in
-    ap₂ (λ (p q : List ℕ). p ++ endWords (t .flag) q) before body ∙ append-assoc h area (endWords (t .flag) area) ∙ sym (framed-front s f v n t (area ++ endWords (t .flag) area))
+    ap₂ (λ (p q : List ℕ). p ++ endWords (t .flag) q) before body ∙ append-assoc h area (endWords (t .flag) area) ∙ sym (framed-front s f v n t laid (area ++ endWords (t .flag) area))

@@ -3,22 +3,24 @@
 use mathlib.Core.Path.{_≡_, refl, sym, ap}
 use mathlib.Core.Bool.{Bool, true, false, _&&_, _||_, not}
 use mathlib.Core.List.{List}
-use Prim.Native.Nat.{ℕ, _+_, _-_, _≤_, _<_}
+use Prim.Native.Nat.{ℕ, _+_, _≤_, _<_}
 use native.Mathlib.Omega.{arith}
 use lib.Dec.{ltb, leb, eqb}
 use lib.ListN.{length}
 use borrow.Author.Tests.{ltb-false, leb-true, leb-false, eqb-true, not-false}
-use Rattle.lists.proofs.Tests.{true-false, or-right, or-false, false-or, both-true, passed, passed-own}
+use Rattle.lists.proofs.Tests.{true-false, or-right, or-false, false-or, both-true}
+use Rattle.lists.proofs.Refusals.{lowest-clear, clear-lowest, clear-append, clear-split}
 use Rattle.words.specs.Modes.{isMode}
 use Rattle.line.specs.declared.settings.Settings.{Settings}
 use Rattle.course.specs.declared.Place.{Place}
 use Rattle.course.specs.declared.Place.the-variants.{Shut, At}
 use Rattle.line.specs.Systems.{systemOf, isSystem}
 use Rattle.line.specs.Fixed.{isVariable}
-use Rattle.line.specs.Settings.{settingsFault}
+use Rattle.line.specs.Settings.{settingsFaults, settingsFault}
 use Rattle.line.specs.Check.{fitsLength}
 use Rattle.course.specs.Course.{isAt, placeOf, impossibleAfter}
 use Rattle.line.proofs.SystemLaws.{Sound, sound, Fit, fitting}
+use Rattle.line.proofs.CheckLaws.{settings-rising}
 use Rattle.line.proofs.AreaLaws.{area-most}
 use Rattle.course.proofs.CourseLaws as laws
 use Rattle.course.proofs.CourseLaws.{end-in-area}
@@ -27,9 +29,10 @@ use Rattle.writer.specs.declared.state.Rest.the-variants.{Whole, Part}
 use Rattle.writer.specs.declared.state.Writer.{Writer}
 use Rattle.writer.specs.State.{most, isPart, laidOf, misshapen, impossible, endIn}
 use Rattle.writer.specs.Cuts.{headIn, tailIn}
-use Rattle.writer.specs.Adding.{valued, illShaped, isFull, isOther, addFault}
-use Rattle.writer.specs.Opening.{openBlocked, openFault}
-use Rattle.writer.specs.Closing.{closeFault}
+use Rattle.writer.specs.Adding.{valued, illShaped, isFull, isOther, addFaults, addFault}
+use Rattle.writer.specs.Opening.{openBlocked, openFaults, openFault}
+use Rattle.writer.specs.Closing.{closeFaults, closeFault}
+use Rattle.writer.proofs.StateLaws.{open-rising, add-rising, close-rising}
 use Rattle.writer.proofs.BlockLaws.{head-six, head-one, tail-variable, tail-fixed}
 
 -- ---- 1, 18, 19
@@ -104,25 +107,30 @@ pub record CanOpen (w : Writer) (n : ℕ) (t : Settings) (long : ℕ) : Type 0 w
   pub free : openBlocked w n t ≡ false
 
 pub can-open : (w : Writer) (n : ℕ) (t : Settings) (long : ℕ) → openFault w n t long ≡ 0 → CanOpen w n t long
-unfolding openFault fitsLength
+unfolding openFault fitsLength settingsFault
 can-open w n t long e =
-    let c1 = passed 0 _ _ e in
-    let c2 = passed 1 _ _ (c1 .1) in
-    let c9 = passed 8 _ _ (c2 .1) in
-    let c10 = passed-own (settingsFault (w .system) t) _ (c9 .1) in
-    let c20 = passed 19 _ _ (c10 .1) in
-    let fit = both-true (isSystem (w .system)) _ (not-false _ (c1 .0)) in
-    let range = both-true (leb 1 n) _ (not-false _ (c9 .0)) in
+    let c = lowest-clear (openFaults w n t long) (open-rising w n t long) e in
+    let behind = clear-split (settingsFaults (systemOf (w .system)) t) _ (c .1 .1 .1) in
+    let fit = both-true (isSystem (w .system)) _ (not-false _ (c .0)) in
+    let range = both-true (leb 1 n) _ (not-false _ (c .1 .1 .0)) in
     record {
       known = fit .0;
       moded = both-true (isMode (w .mode)) _ (fit .1) .0;
       row = sound (w .system) (fit .0);
-      state = c2 .0;
+      state = c .1 .0;
       one = leb-true 1 n (range .0);
       last = leb-true n _ (range .1);
-      clean = c10 .0;
-      free = c20 .0;
+      clean = clear-lowest (settingsFaults (systemOf (w .system)) t) (behind .0);
+      free = behind .1 .0;
     }
+
+-- and the other way round
+pub clear-open : (w : Writer) (n : ℕ) (t : Settings) (long : ℕ) → not (fitsLength (w .system) (w .mode) long) ≡ false → impossible w ≡ false
+    → not (leb 1 n && leb n (systemOf (w .system) .lines)) ≡ false → settingsFault (w .system) t ≡ 0 → openBlocked w n t ≡ false → openFault w n t long ≡ 0
+unfolding openFault settingsFault
+clear-open w n t long fit possible range clean free =
+    let row = systemOf (w .system) in
+    clear-lowest (openFaults w n t long) (fit, (possible, (range, clear-append (settingsFaults row t) _ (lowest-clear (settingsFaults row t) (settings-rising row t) clean) (free, tt))))
 
 -- ---- what an accepted addition finds
 pub record CanAdd (w : Writer) (line : List ℕ) (kind : ℕ) (vs : List ℕ) : Type 0 where
@@ -143,28 +151,24 @@ unfolding addFault
 can-add w line kind vs e =
     let n = length vs in
     let block = w .settings .block in
-    let c1 = passed 0 (not (fitsLength (w .system) (w .mode) (length line))) _ e in
-    let c2 = passed 1 (impossible w) _ (c1 .1) in
-    let c17 = passed 16 (not (valued (w .mode) vs)) _ (c2 .1) in
-    let c18 = passed 17 (illShaped (w .place) block kind n) _ (c17 .1) in
-    let c19 = passed 18 (isFull (endIn w) (w .place)) _ (c18 .1) in
-    let c20 = passed 19 (not (isAt (w .place)) || isOther (w .rest) kind n) 0 (c19 .1) in
-    let o = or-false (not (isAt (w .place))) _ (c20 .0) in
+    let c = lowest-clear (addFaults w (length line) kind vs) (add-rising w (length line) kind vs) e in
+    let from-17 = c .1 .1 in
+    let o = or-false (not (isAt (w .place))) _ (from-17 .1 .1 .1 .0) in
     let at = not-false (isAt (w .place)) (o .0) in
-    let f = fit-of w line (c1 .0) in
-    let s = shape-of (w .place) block kind n (c18 .0) in
-    let h = begun w (c2 .0) (or-right (isPart (w .rest)) (isAt (w .place)) at) in
+    let f = fit-of w line (c .0) in
+    let s = shape-of (w .place) block kind n (from-17 .1 .0) in
+    let h = begun w (c .1 .0) (or-right (isPart (w .rest)) (isAt (w .place)) at) in
     let area = area-most (systemOf (w .system) .payload) (w .settings .flag) in
     let end = end-in-area (w .system) (w .settings) (f .0) (eqb-true _ 0 (not-false _ (h .course .clean))) in
     record {
       fit = f .1;
-      state = c2 .0;
+      state = c .1 .0;
       begun = at;
-      values = not-false _ (c17 .0);
-      shape = c18 .0;
+      values = not-false _ (from-17 .0);
+      shape = from-17 .1 .0;
       number = s .0;
       byte = s .1;
-      room = room-of-place (endIn w) (w .place) at (c19 .0);
+      room = room-of-place (endIn w) (w .place) at (from-17 .1 .1 .0);
       end = omega (arith, area, end);
       same = o .1;
       left = laid-below block (w .rest) kind n (h .course .varied) (h .shaped) (o .1);
@@ -180,8 +184,6 @@ pub record CanClose (w : Writer) (line : List ℕ) : Type 0 where
 pub can-close : (w : Writer) (line : List ℕ) → closeFault w (length line) ≡ 0 → CanClose w line
 unfolding closeFault
 can-close w line e =
-    let c1 = passed 0 (not (fitsLength (w .system) (w .mode) (length line))) _ e in
-    let c2 = passed 1 (impossible w) _ (c1 .1) in
-    let c20 = passed 19 (not (isAt (w .place)) || (isPart (w .rest) && not (isFull (endIn w) (w .place)))) 0 (c2 .1) in
-    let o = or-false (not (isAt (w .place))) _ (c20 .0) in
-    record { fit = fit-of w line (c1 .0) .1; state = c2 .0; begun = not-false (isAt (w .place)) (o .0); none-left = o .1 }
+    let c = lowest-clear (closeFaults w (length line)) (close-rising w (length line)) e in
+    let o = or-false (not (isAt (w .place))) _ (c .1 .1 .0) in
+    record { fit = fit-of w line (c .0) .1; state = c .1 .0; begun = not-false (isAt (w .place)) (o .0); none-left = o .1 }

@@ -80,9 +80,9 @@ opened-long : length opened-words ≡ 1716
 unfolding opened-words openWords
 opened-long =
     let fill : List ℕ = replicate (systemOf 0 .payload) 0x200 in
-    ap length (framed-front (systemOf 0) false false 20 settings fill)
-    ∙ length-append (front (systemOf 0) false false 20 settings) fill
-    ∙ ap₂ _+_ (front-length (systemOf 0) false false 20 settings held (lit≤ tt)) (length-replicate {A = ℕ} 1440 0x200)
+    ap length (framed-front (systemOf 0) false false 20 settings [] fill)
+    ∙ length-append (front (systemOf 0) false false 20 settings []) fill
+    ∙ ap₂ _+_ (front-length (systemOf 0) false false 20 settings [] held (lit≤ tt) (lit≤ tt)) (length-replicate {A = ℕ} 1440 0x200)
 
 -- words pasted within a line leave its length
 paste-long : (l s : List ℕ) (a k : ℕ) → a + k ≤ length l → k ≤ length s → length (paste l a s k) ≡ length l

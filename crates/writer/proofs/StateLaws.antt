@@ -1,43 +1,40 @@
--- Laws of the writer's answers: the lowest refusal, one condition at a time; and what opening leaves, refused or done.
+-- Laws of the writer's answers: the numbers of its refusals rise; and what opening leaves, refused or done.
 -- Assumes nothing.
-use mathlib.Core.Path.{_≡_, refl, sym, ap, ap₂, _∙_}
-use mathlib.Core.Bool.{Bool, true, false, not}
-use mathlib.Core.List.{List, [], _∷_}
-use Prim.Native.Nat.{ℕ, suc}
-use native.Mathlib.Omega.{arith}
+use mathlib.Core.Path.{_≡_, refl, sym, ap, _∙_}
+use mathlib.Core.Bool.{Bool, true}
+use mathlib.Core.List.{List}
+use Prim.Native.Nat.{ℕ}
 use lib.ListN.{length}
-use borrow.Author.Tests.{eq-eqb, ne-eqb}
-use Rattle.lists.specs.Tests.{Refusal, when, lowestOf, pick}
+use borrow.Author.Tests.{eq-eqb, ne-eqb, not-false}
+use Rattle.lists.specs.Tests.{rising}
 use Rattle.lists.proofs.Tests.{pick-true, pick-false}
+use Rattle.lists.proofs.Refusals.{lowest-clear}
 use Rattle.line.specs.declared.settings.Settings.{Settings}
+use Rattle.line.specs.Settings.{settingsFaults}
 use Rattle.line.specs.Check.{fitsLength}
 use Rattle.writer.specs.declared.state.Writer.{Writer}
 use Rattle.writer.specs.declared.state.Answer.the-variants.{Refused, Done}
 use Rattle.writer.specs.Answers.{left}
-use Rattle.writer.specs.Opening.{openFault, openState, openWords, opening}
+use Rattle.writer.specs.Opening.{openFaults, openFault, openState, openWords, opening}
+use Rattle.writer.specs.Adding.{addFaults}
+use Rattle.writer.specs.Closing.{closeFaults}
 
--- ---- the lowest refusal
--- x is the lowest; and one condition more, in front: its number where it holds, else the number that the later conditions gave
-pub record LowestOf (rs : List Refusal) (x : ℕ) : Type 0 where
-  pub is : x ≡ lowestOf rs
+-- ---- the numbers rise, whatever the conditions are: the answer is the lowest whose condition holds
+pub open-rising : (w : Writer) (n : ℕ) (t : Settings) (long : ℕ) → rising (openFaults w n t long) ≡ true
+unfolding settingsFaults
+open-rising w n t long = refl
 
-pub no-refusal : LowestOf [] 0
-no-refusal = record { is = refl }
+pub add-rising : (w : Writer) (long kind : ℕ) (vs : List ℕ) → rising (addFaults w long kind vs) ≡ true
+add-rising w long kind vs = refl
 
-pub next-refusal : (n : ℕ) {m x r : ℕ} {b d : Bool} {rs : List Refusal} → x ≡ pick d n r → d ≡ b → n ≡ m → LowestOf rs r → LowestOf (when m b ∷ rs) x
-next-refusal n {m} {x} {r} {b} {d} {rs} e f g h = record { is = e ∙ ap₂ (λ (c : Bool) (k : ℕ). pick c k r) f g ∙ ap (λ (k : ℕ). pick b m k) (h .is) }
-
--- nothing is refused: the first condition does not hold
-pub unrefused : (b : Bool) (n x : ℕ) → pick (not b) (suc n) x ≡ 0 → b ≡ true
-unfolding pick
-unrefused true n x e = refl
-unrefused false n x e = absurd (omega arith)
+pub close-rising : (w : Writer) (long : ℕ) → rising (closeFaults w long) ≡ true
+close-rising w long = refl
 
 -- ---- opening
 -- a line that opening does not refuse fits
 pub open-fits : (w : Writer) (n : ℕ) (t : Settings) (long : ℕ) → openFault w n t long ≡ 0 → fitsLength (w .system) (w .mode) long ≡ true
 unfolding openFault
-open-fits w n t long e = unrefused (fitsLength (w .system) (w .mode) long) 0 _ e
+open-fits w n t long e = not-false _ (lowest-clear (openFaults w n t long) (open-rising w n t long) e .0)
 
 pub not-opened : (w : Writer) (f v : Bool) (n : ℕ) (t : Settings) (line : List ℕ) (x : ℕ) → x ≡ openFault w n t (length line) → (x ≡ 0 → ⊥)
     → left (Refused x) w line ≡ opening w f v n t line

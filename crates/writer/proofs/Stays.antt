@@ -3,7 +3,6 @@
 use mathlib.Core.Path.{_≡_, refl, sym, ap, ap₂, _∙_, subst}
 use mathlib.Core.Bool.{Bool, true, false, _&&_, _||_, not}
 use mathlib.Core.List.{List, [], _∷_, map}
-use mathlib.Core.Logic.{⊎-elim}
 use Prim.Native.Nat.{ℕ, _+_, _-_, _*_, _≤_, _<_, min}
 use native.Mathlib.Nat.{one-mul}
 use native.Mathlib.Omega.{arith}
@@ -11,7 +10,8 @@ use lib.Dec.{T, eqb, ltb}
 use lib.ListN.{length, getD, drop, length-append, length-drop, length-map}
 use borrow.Author.Tests.{eqb-true, eqb-false, eq-eqb, le-leb, le-ltb, ltb-false, not-false}
 use Rattle.lists.specs.Tests.{pick}
-use Rattle.lists.proofs.Tests.{lowest-or, not-2, or-left, or-right, or-false, false-or, both-true, and-true, pick-true, pick-false}
+use Rattle.lists.proofs.Tests.{true-false, or-left, or-right, or-false, false-or, both-true, and-true, pick-true, pick-false}
+use Rattle.lists.proofs.Refusals.{given-holds}
 use Rattle.words.specs.Modes.{wordOf}
 use Rattle.words.specs.Class.{endCode}
 use Rattle.line.specs.declared.settings.Settings.{Settings}
@@ -19,7 +19,7 @@ use Rattle.course.specs.declared.Place.{Place}
 use Rattle.course.specs.declared.Place.the-variants.{Shut, At}
 use Rattle.line.specs.Systems.{systemOf}
 use Rattle.line.specs.Fixed.{sizeOf, isVariable}
-use Rattle.line.specs.Settings.{settingsFault, settingsFaults, sameSettings}
+use Rattle.line.specs.Settings.{settingsFaults, sameSettings}
 use Rattle.line.proofs.SettingsLaws.{same-block}
 use Rattle.course.specs.Course.{isAt, placeOf, misplaced, impossibleAfter}
 use Rattle.course.proofs.CourseLaws.{at-place, start-placed, variable-placed, grid-next, grid-room}
@@ -33,9 +33,9 @@ use Rattle.writer.specs.declared.state.Laid.the-variants.{Not, Finished,
 use Rattle.writer.specs.State.{most, isPart, laidOf, fresh, misshapen, impossible, endIn, moved}
 use Rattle.writer.specs.Block.{countWords, blockWords, fixedWords, wordsIn}
 use Rattle.writer.specs.Answers.{answerNumbers, laidNumbers, left, Added, added}
-use Rattle.writer.specs.Opening.{openBlocked, openFault, openState, opening}
-use Rattle.writer.specs.Adding.{illShaped, isOther, addFault, todo, room, lay, adding}
-use Rattle.writer.specs.Closing.{closeFault, closing}
+use Rattle.writer.specs.Opening.{openBlocked, openFaults, openFault, openState, opening}
+use Rattle.writer.specs.Adding.{illShaped, isOther, addFaults, addFault, todo, room, lay, adding}
+use Rattle.writer.specs.Closing.{closeFaults, closeFault, closing}
 use Rattle.writer.proofs.Refusals.{Begun, begun, possible-by, can-open, CanAdd, can-add, can-close}
 
 -- another place and rest in a line that is begun
@@ -101,29 +101,22 @@ pub fresh-possible : (system mode : ℕ) → impossible (fresh system mode) ≡ 
 unfolding impossible
 fresh-possible system mode = refl
 
-settings-2 : (system : ℕ) (t : Settings) → settingsFault system t ≡ 2 → ⊥
-unfolding settingsFault
-settings-2 system t e = ⊎-elim (λ z. omega arith) (λ h. omega arith) (lowest-or 10 (settingsFaults (systemOf system) t))
-
+-- answer 2 is of an impossible state alone
 module _ (w : Writer) (possible : impossible w ≡ false) where
-  past-2 : (r : ℕ) → (r ≡ 2 → ⊥) → pick (impossible w) 2 r ≡ 2 → ⊥
-  past-2 r h e = h (sym (pick-false 2 r possible) ∙ e)
+  not-given : (impossible w || false) ≡ true → ⊥
+  not-given e = true-false (sym e ∙ false-or possible refl)
 
   pub open-never-2 : (n : ℕ) (t : Settings) (long : ℕ) → openFault w n t long ≡ 2 → ⊥
-  unfolding openFault
-  open-never-2 n t long =
-      not-2 _ 1 _ (λ z. omega arith)
-      (past-2 _ (not-2 _ 9 _ (λ z. omega arith) (not-2 _ (settingsFault (w .system) t) _ (settings-2 (w .system) t) (not-2 _ 20 0 (λ z. omega arith) (λ z. omega arith)))))
+  unfolding openFault settingsFaults
+  open-never-2 n t long e = not-given (given-holds 2 (openFaults w n t long) e (λ z. omega arith))
 
   pub add-never-2 : (long kind : ℕ) (vs : List ℕ) → addFault w long kind vs ≡ 2 → ⊥
   unfolding addFault
-  add-never-2 long kind vs =
-      not-2 _ 1 _ (λ z. omega arith)
-      (past-2 _ (not-2 _ 17 _ (λ z. omega arith) (not-2 _ 18 _ (λ z. omega arith) (not-2 _ 19 _ (λ z. omega arith) (not-2 _ 20 0 (λ z. omega arith) (λ z. omega arith))))))
+  add-never-2 long kind vs e = not-given (given-holds 2 (addFaults w long kind vs) e (λ z. omega arith))
 
   pub close-never-2 : (long : ℕ) → closeFault w long ≡ 2 → ⊥
   unfolding closeFault
-  close-never-2 long = not-2 _ 1 _ (λ z. omega arith) (past-2 _ (not-2 _ 20 0 (λ z. omega arith) (λ z. omega arith)))
+  close-never-2 long e = not-given (given-holds 2 (closeFaults w long) e (λ z. omega arith))
 
 -- ---- adding: how many words a block has
 pub words-variable : (block mode kind : ℕ) (vs : List ℕ) → isVariable block ≡ true → wordsIn block mode kind vs ≡ blockWords mode kind vs

@@ -47,7 +47,7 @@ pub record Open (system mode : ℕ) (f v : Bool) (n : ℕ) (t : Settings) (a : L
   pub of-place : w .place ≡ At (length a)
   pub within : length a ≤ areaLength (systemOf system .payload) (t .flag)
   pub words : each (legal mode (isVariable (t .block))) a ≡ true
-  pub is : line ≡ framed (systemOf system) f v n t (a ++ replicate (systemOf system .payload - length a) 0x200)
+  pub is : line ≡ framed (systemOf system) f v n t [] (a ++ replicate (systemOf system .payload - length a) 0x200)
 
 -- which way a test goes
 pub either : (n : ℕ) → (n ≡ 0) ⊎ (n ≡ 0 → ⊥)
@@ -66,11 +66,11 @@ module _ (system mode : ℕ) (f v : Bool) (n : ℕ) (t : Settings) (held : Held 
     (clean : settingsFault system t ≡ 0) where
   -- what the line is before the payload, and where the payload starts
   before : List ℕ
-  before = front (systemOf system) f v n t
+  before = front (systemOf system) f v n t []
 
   before-long : length before ≡ payloadAt (systemOf system)
   unfolding before
-  before-long = front-length (systemOf system) f v n t held (row .room)
+  before-long = front-length (systemOf system) f v n t [] held (row .room) (omega arith)
 
   ends-in : (w : Writer) → w .system ≡ system → w .settings ≡ t → endIn w ≤ areaLength (systemOf system .payload) (t .flag)
   ends-in w es et =
@@ -106,12 +106,12 @@ module _ (system mode : ℕ) (f v : Bool) (n : ℕ) (t : Settings) (held : Held 
 
     line-now : line ≡ before ++ (a ++ replicate (systemOf system .payload - length a) 0x200)
     unfolding before
-    line-now = o .is ∙ framed-front (systemOf system) f v n t _
+    line-now = o .is ∙ framed-front (systemOf system) f v n t [] _
 
     at-is : payloadAt (systemOf (w .system)) + placeOf (w .place) ≡ length before + length a
     at-is = ap₂ (λ (s p : ℕ). payloadAt (systemOf s) + p) (o .of-system) place-is ∙ ap (λ (x : ℕ). x + length a) (sym before-long)
 
-    after-line : adding w line kind vs .line ≡ framed (systemOf system) f v n t ((a ++ laid) ++ replicate (systemOf system .payload - length (a ++ laid)) 0x200)
+    after-line : adding w line kind vs .line ≡ framed (systemOf system) f v n t [] ((a ++ laid) ++ replicate (systemOf system .payload - length (a ++ laid)) 0x200)
     unfolding laid before
     after-line =
         let p = systemOf system .payload in
@@ -121,7 +121,7 @@ module _ (system mode : ℕ) (f v : Bool) (n : ℕ) (t : Settings) (held : Held 
         ∙ ap₂ (λ (l : List ℕ) (i : ℕ). paste l i (todo w kind vs) (room w (todo w kind vs))) line-now at-is
         ∙ pasted before a (todo w kind vs) (p - length a) 0x200 (room w (todo w kind vs)) k-most
         ∙ ap (λ (m : ℕ). before ++ ((a ++ laid) ++ replicate m 0x200)) rest
-        ∙ sym (framed-front (systemOf system) f v n t _)
+        ∙ sym (framed-front (systemOf system) f v n t [] _)
 
     after-place : adding w line kind vs .state .place ≡ At (length a + k)
     after-place = ap (λ (x : Added). x .state .place) (add-leaves w line kind vs ok) ∙ ap (λ (p : ℕ). At (p + k)) place-is
@@ -220,7 +220,7 @@ opened-line w f v n t lent done =
       within = omega arith;
       words = refl;
       is = ap (λ (x : Left). x .line) e
-          ∙ ap (λ (m : ℕ). framed (systemOf (w .system)) f v n t (replicate m 0x200)) (sym (sub-zero (systemOf (w .system) .payload)));
+          ∙ ap (λ (m : ℕ). framed (systemOf (w .system)) f v n t [] (replicate m 0x200)) (sym (sub-zero (systemOf (w .system) .payload)));
     }
 
 -- ---- an open line closed
@@ -228,13 +228,13 @@ module _ (system mode : ℕ) (f v : Bool) (n : ℕ) (t : Settings) (held : Held 
     (row : Sound (systemOf system)) (clean : settingsFault system t ≡ 0) (one : 1 ≤ n) (last : n ≤ systemOf system .lines) (ps : List (List ℕ)) (w : Writer)
     (line : List ℕ) (o : Open system mode f v n t (joined ps) w line) (done : closing w line .answer ≡ Done) where
   -- it is the line of the definition
-  pub closed-line : closing w line .line ≡ lineWords (systemOf system) f v n t (areaFrom (systemOf system .payload) (t .flag) ps)
+  pub closed-line : closing w line .line ≡ lineWords (systemOf system) f v n t [] (areaFrom (systemOf system .payload) (t .flag) ps)
   unfolding areaFrom
   closed-line =
       ap (λ (x : Left). x .line) (close-leaves w line (close-clear w line done))
       ∙ ap₂ (λ (s : ℕ) (u : Settings). sealed (systemOf s) (u .flag) line) (o .of-system) (o .of-settings)
       ∙ ap (sealed (systemOf system) (t .flag)) (o .is)
-      ∙ seals (systemOf system) f v n t held (row .room) (joined ps) (o .within) (area-most (systemOf system .payload) (t .flag))
+      ∙ seals (systemOf system) f v n t [] held (row .room) (omega arith) (joined ps) (o .within) (area-most (systemOf system .payload) (t .flag))
 
   buildable : Buildable system mode n t (areaFrom (systemOf system .payload) (t .flag) ps)
   unfolding areaFrom
@@ -260,12 +260,12 @@ module _ (system mode : ℕ) (f v : Bool) (n : ℕ) (t : Settings) (held : Held 
   pub closed-accepted : Accepted system mode n t (areaFrom (systemOf system .payload) (t .flag) ps) (closing w line .line)
   closed-accepted =
       subst (λ (l : List ℕ). Accepted system mode n t (areaFrom (systemOf system .payload) (t .flag) ps) l) (sym closed-line)
-      (accepted system mode f v n t (areaFrom (systemOf system .payload) (t .flag) ps) buildable)
+      (accepted system mode f v n t [] (areaFrom (systemOf system .payload) (t .flag) ps) (omega arith) buildable)
 
 -- ---- a line opened, filled and closed
 -- what it is, and that the line check of its system and mode finds no fault in it and reads back its number, settings and area
 pub record Whole (w : Writer) (f v : Bool) (n : ℕ) (t : Settings) (ps : List (List ℕ)) (line : List ℕ) : Type 0 where
-  pub is : line ≡ lineWords (systemOf (w .system)) f v n t (areaFrom (systemOf (w .system) .payload) (t .flag) ps)
+  pub is : line ≡ lineWords (systemOf (w .system)) f v n t [] (areaFrom (systemOf (w .system) .payload) (t .flag) ps)
   pub fits : length (joined ps) ≤ areaLength (systemOf (w .system) .payload) (t .flag)
   pub accepts : Accepted (w .system) (w .mode) n t (areaFrom (systemOf (w .system) .payload) (t .flag) ps) line
 

@@ -6,7 +6,7 @@ use mathlib.Core.List.{List, [], _∷_}
 use lib.Dec.{eqb, leb, ltb}
 use lib.ListN.{length, drop}
 use lib.Seq.{paste}
-use Rattle.lists.specs.Tests.{pick, when, lowestOf}
+use Rattle.lists.specs.Tests.{pick, Refusal, when, lowestOf}
 use Rattle.lists.specs.Lists.{each}
 use Rattle.words.specs.Modes.{values}
 use Rattle.course.specs.declared.Place.{Place}
@@ -44,16 +44,18 @@ isOther Whole kind n = false
 isOther (Part k m j) kind n = not (eqb k kind && eqb m n)
 
 -- 1; 2; 17; 18; 19; 20: none open, or unfinished block and a changed type or length
-unfoldable pub addFault : Writer → ℕ → ℕ → List ℕ → ℕ
-addFault w long kind vs =
-    lowestOf
-    (when 1 (not (fitsLength (w .system) (w .mode) long))
+abbrev pub addFaults : Writer → ℕ → ℕ → List ℕ → List Refusal
+addFaults w long kind vs =
+    when 1 (not (fitsLength (w .system) (w .mode) long))
     ∷ when 2 (impossible w)
     ∷ when 17 (not (valued (w .mode) vs))
     ∷ when 18 (illShaped (w .place) (w .settings .block) kind (length vs))
     ∷ when 19 (isFull (endIn w) (w .place))
     ∷ when 20 (not (isAt (w .place)) || isOther (w .rest) kind (length vs))
-    ∷ [])
+    ∷ []
+
+unfoldable pub addFault : Writer → ℕ → ℕ → List ℕ → ℕ
+addFault w long kind vs = lowestOf (addFaults w long kind vs)
 
 -- the words of the block that are still to lay, and how many of them fit
 abbrev pub todo : Writer → ℕ → List ℕ → List ℕ

@@ -5,7 +5,7 @@ use mathlib.Core.Bool.{_&&_, _||_, not}
 use mathlib.Core.List.{List, [], _∷_, _++_}
 use lib.Dec.{eqb}
 use lib.ListN.{length, take}
-use Rattle.lists.specs.Tests.{pick, when, lowestOf}
+use Rattle.lists.specs.Tests.{pick, Refusal, when, lowestOf}
 use Rattle.line.specs.declared.systems.System.{System}
 use Rattle.course.specs.declared.Place.the-variants.{Shut}
 use Rattle.line.specs.Systems.{systemOf}
@@ -19,13 +19,15 @@ use Rattle.writer.specs.Answers.{Left, left}
 use Rattle.writer.specs.Adding.{isFull}
 
 -- 1; 2; 20: none open, or unfinished block and a word left in the area
-unfoldable pub closeFault : Writer → ℕ → ℕ
-closeFault w long =
-    lowestOf
-    (when 1 (not (fitsLength (w .system) (w .mode) long))
+abbrev pub closeFaults : Writer → ℕ → List Refusal
+closeFaults w long =
+    when 1 (not (fitsLength (w .system) (w .mode) long))
     ∷ when 2 (impossible w)
     ∷ when 20 (not (isAt (w .place)) || (isPart (w .rest) && not (isFull (endIn w) (w .place))))
-    ∷ [])
+    ∷ []
+
+unfoldable pub closeFault : Writer → ℕ → ℕ
+closeFault w long = lowestOf (closeFaults w long)
 
 -- Closing writes the payload CRC: of the area as the line has it, behind the area.
 unfoldable pub sealed : System → ℕ → List ℕ → List ℕ

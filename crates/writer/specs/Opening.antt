@@ -2,16 +2,16 @@
 -- Assumes nothing.
 use Prim.Native.Nat.{ℕ}
 use mathlib.Core.Bool.{Bool, false, _&&_, _||_, not}
-use mathlib.Core.List.{List, [], _∷_}
+use mathlib.Core.List.{List, [], _∷_, _++_}
 use lib.Dec.{eqb, leb}
 use lib.ListN.{length, replicate}
-use Rattle.lists.specs.Tests.{pick, when, lowestOf}
+use Rattle.lists.specs.Tests.{pick, Refusal, when, lowestOf}
 use Rattle.line.specs.declared.settings.Settings.{Settings}
 use Rattle.course.specs.declared.Last.{Last}
 use Rattle.course.specs.declared.Last.the-variants.{Unknown, Number}
 use Rattle.course.specs.declared.Place.the-variants.{At}
 use Rattle.line.specs.Systems.{systemOf}
-use Rattle.line.specs.Settings.{settingsFault, sameSettings}
+use Rattle.line.specs.Settings.{settingsFaults, sameSettings}
 use Rattle.line.specs.Layout.{framed}
 use Rattle.line.specs.Check.{fitsLength}
 use Rattle.course.specs.Course.{isAt, nextNumber}
@@ -31,15 +31,15 @@ openBlocked w n t =
     isAt (w .place) || (isPart (w .rest) && (not (sameSettings t (w .settings)) || not (isNext (systemOf (w .system) .lines) (w .last) n)))
 
 -- 1; 2; 9: line number not 1..N; 10 to 14; 20
-unfoldable pub openFault : Writer → ℕ → Settings → ℕ → ℕ
-openFault w n t long =
-    lowestOf
-    (when 1 (not (fitsLength (w .system) (w .mode) long))
+abbrev pub openFaults : Writer → ℕ → Settings → ℕ → List Refusal
+openFaults w n t long =
+    when 1 (not (fitsLength (w .system) (w .mode) long))
     ∷ when 2 (impossible w)
     ∷ when 9 (not (leb 1 n && leb n (systemOf (w .system) .lines)))
-    ∷ when (settingsFault (w .system) t) (not (eqb (settingsFault (w .system) t) 0))
-    ∷ when 20 (openBlocked w n t)
-    ∷ [])
+    ∷ settingsFaults (systemOf (w .system)) t ++ (when 20 (openBlocked w n t) ∷ [])
+
+unfoldable pub openFault : Writer → ℕ → Settings → ℕ → ℕ
+openFault w n t long = lowestOf (openFaults w n t long)
 
 -- the state of an opened line, at its first word; an unfinished block stays
 abbrev pub openState : Writer → ℕ → Settings → Writer
@@ -47,7 +47,7 @@ openState w n t = record { system = w .system; mode = w .mode; last = Number n; 
 
 -- Opening writes L words, the payload all 200h.
 unfoldable pub openWords : ℕ → Bool → Bool → ℕ → Settings → List ℕ
-openWords system f v n t = framed (systemOf system) f v n t (replicate (systemOf system .payload) 0x200)
+openWords system f v n t = framed (systemOf system) f v n t [] (replicate (systemOf system .payload) 0x200)
 
 -- a refusal leaves line and state
 unfoldable pub opening : Writer → Bool → Bool → ℕ → Settings → List ℕ → Left

@@ -52,7 +52,7 @@ fn lay_head(block: u8, kind: u16, n: usize, j: usize, out: &mut [u16])
         let b1 = count_word(n, 256);
         let b2 = count_word(n, 65536);
         let b3 = count_word(n, 16777216);
-        fill::copy_from(&[0x309, word, b0, b1, b2, b3], j, out);
+        fill::copy_from(&[words::class::SEPARATOR, word, b0, b1, b2, b3], j, out);
     } else {
         fill::copy_from(&[word], j, out);
     }
@@ -64,7 +64,7 @@ fn lay_tail(block: u8, j: usize, out: &mut [u16])
     ensures { λ _. ⌜ now (out .exit) ≡ take (length (now (out .entry))) (drop j (tailIn block)) ⌝ }
 {
     if line::fixed::is_variable(block) {
-        fill::copy_from(&[0x30a], j, out);
+        fill::copy_from(&[words::class::END_CODE], j, out);
     }
 }
 

@@ -34,9 +34,10 @@ fn seal(s: System, flag: u8, line: &mut [u16])
     if flag == 1 {
         let a = s.length - s.payload;
         let e = s.length - 2;
-        let c = words::crc::crc_of(262143, &line[a..e]);
-        line[e] = words::crc::crc_low(c);
-        line[e + 1] = words::crc::crc_high(c);
+        let c = words::crc::crc_of(words::crc::CRC_START, &line[a..e]);
+        let two = words::crc::crc_words(c);
+        line[e] = two[0];
+        line[e + 1] = two[1];
     }
 }
 

@@ -17,7 +17,7 @@ ghost use lib.ListN.{length, replicate};
 ghost use Rattle.line.specs.Systems.{systemOf};
 ghost use Rattle.line.specs.Timing.{timingWords};
 ghost use Rattle.line.specs.Header.{headerWords};
-ghost use Rattle.line.specs.Layout.{gapWords, framed};
+ghost use Rattle.line.specs.Layout.{gapWords};
 ghost use Rattle.writer.specs.Answers.{left};
 ghost use Rattle.writer.specs.Opening.{isNext, openBlocked, openFault, openState, openWords, opening};
 
@@ -57,7 +57,7 @@ fn open_fault(w: Writer, n: u16, t: Settings, long: usize) -> u8
     let s = systems::system_of(w.system);
     let fault = settings::settings_fault(w.system, t);
     let r20 = lists::or_else(is_blocked(w, n, t), 20, 0);
-    let r10 = lists::or_else(fault != 0, fault, r20);
+    let r10 = lists::or_next(fault, r20);
     let r9 = lists::or_else(!((1 <= n) & (n <= s.lines)), 9, r10);
     let r2 = lists::or_else(state::is_impossible(w), 2, r9);
     lists::or_else(!check::is_fit(w.system, w.mode, long), 1, r2)

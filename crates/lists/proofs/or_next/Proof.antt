@@ -1,6 +1,6 @@
 -- `lists::or_next` meets its contract. Assumes nothing.
 use mathlib.Core.Path.{sym}
-use Rattle.lists.proofs.Tests.{found-first}
+use Rattle.lists.proofs.Refusals.{found-first}
 use borrow.Author.Needs.{needs}
 use Rattle.lists.proofs.or_next.Statement.{statement}
 use Rattle.lists.proofs.or_next.Tie as tie

@@ -1,24 +1,20 @@
 -- `line::area::all_legal` meets its contract. Assumes nothing.
-use mathlib.Core.Path.{_≡_, refl, sym, ap, ap₂, _∙_}
-use Prim.Native.Nat.{ℕ, _+_, _-_, _≤_}
-use mathlib.Core.Bool.{Bool, _&&_}
-use denote.Ref.{now}
-use lib.ListN.{length, drop}
-use Rattle.lists.specs.Lists.{each}
-use Rattle.lists.proofs.Loops.{each-next, each-end}
+use Prim.Native.Nat.{_-_}
+use lib.ListN.{length}
+use Rattle.lists.proofs.Loops.{Testing, test-start, test-turn, test-end}
 use Rattle.line.specs.Check.{legal}
 use borrow.Author.Needs.{needs}
 use Rattle.line.proofs.area.all_legal.Statement.{statement}
 use Rattle.line.proofs.area.all_legal.Tie as tie
 
 abbrev Inv-loop : tie.InvT-loop
-Inv-loop mode variable s ok₀ i₀ ok i = (i ≤ length s) × ((ok && each (legal mode variable) (drop i s)) ≡ each (legal mode variable) s)
+Inv-loop mode variable s ok₀ i₀ ok i = Testing (legal mode variable) s ok i
 
 abbrev μ-loop : tie.MeasureT-loop
 μ-loop mode variable s ok₀ i₀ ok i = length s - i
 
 loop-holds : tie.Need-loop-holds Inv-loop μ-loop
-loop-holds c = (search needs, refl)
+loop-holds c = test-start _ _
 
 mul-is-legal : tie.Need-mul-is-legal Inv-loop μ-loop
 mul-is-legal c = search needs
@@ -37,16 +33,13 @@ loop-less c = search needs
 
 loop-again : tie.Need-loop-again Inv-loop μ-loop
 loop-again c =
-    let l = c .before .before .before .loop in
     let a = c .before .before .before .before .before .args in
-    let s = now (a .s) in
-    let f = legal (a .mode) (a .variable) in
-    (search needs, ap (λ (b : Bool). (l .ok && b) && each f (drop (l .i + 1) s)) (c .is-legal .ensures) ∙ each-next f (l .ok) (l .i) s (c .before .before .loop-test .taken) ∙ l .inv .1)
+    test-turn (legal (a .mode) (a .variable)) _ _ _ _ (c .before .before .before .loop .inv) (c .before .before .loop-test .taken) (c .is-legal .ensures)
 
 returns : tie.Need-returns Inv-loop μ-loop
 returns c =
     let a = c .before .before .before .args in
-    each-end (legal (a .mode) (a .variable)) _ _ (now (a .s)) (c .loop-test .left) ∙ c .before .loop .inv .1
+    test-end (legal (a .mode) (a .variable)) _ _ _ (c .before .loop .inv) (c .loop-test .left)
 
 pub all-legal-spec : {M : Type 1} → statement M
 all-legal-spec =

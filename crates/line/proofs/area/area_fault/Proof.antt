@@ -1,8 +1,8 @@
 -- `line::area::area_fault` meets its contract. Assumes nothing.
-use mathlib.Core.Path.{ap, ap₂, _∙_}
+use mathlib.Core.Path.{ap, ap₂}
 use mathlib.Core.Bool.{_&&_, not}
 use denote.Ref.{now}
-use Rattle.lists.proofs.Tests.{Lowest, no-more, low-step}
+use Rattle.lists.proofs.Refusals.{LowestOf, low-none, low-step}
 use Rattle.line.specs.Check.{areaFaults}
 use borrow.Author.Needs.{needs}
 use Rattle.line.proofs.area.area_fault.Statement.{statement}
@@ -27,8 +27,8 @@ returns : tie.Need-returns
 unfolding areaFaults
 returns c =
     let a = c .before .before .before .before .before .before .before .args in
-    let lowest : Lowest 15 (areaFaults (a .mode) (a .variable) (a .flag) (now (a .area)) (now (a .end))) (c .or-else2 .result) =
-    low-step 15 (c .or-else2 .ensures) (ap not (ap₂ _&&_ (c .before .before .before .before .all-legal .ensures) (c .before .before .before .all-data .ensures))) (low-step 16 (c .before .or-else .ensures) (ap not (c .before .before .end-stands .ensures)) (no-more 17)) in
+    let lowest : LowestOf (areaFaults (a .mode) (a .variable) (a .flag) (now (a .area)) (now (a .end))) (c .or-else2 .result) =
+    low-step 15 (c .or-else2 .ensures) (ap not (ap₂ _&&_ (c .before .before .before .before .all-legal .ensures) (c .before .before .before .all-data .ensures))) (low-step 16 (c .before .or-else .ensures) (ap not (c .before .before .end-stands .ensures)) low-none) in
     lowest .is
 
 pub area-fault-spec : {M : Type 1} → statement M

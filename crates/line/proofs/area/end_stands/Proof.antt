@@ -2,12 +2,10 @@
 use mathlib.Core.Path.{sym, ap, _∙_}
 use borrow.Author.Tests.{eq-eqb, ne-eqb}
 use Rattle.lists.proofs.Tests.{pick-true, pick-false}
-use Prim.Native.Nat.{ℕ}
-use mathlib.Core.Path.{ap₂}
-use mathlib.Core.List.{List, [], _∷_}
+use mathlib.Core.List.{[]}
 use denote.Ref.{now}
 use Rattle.lists.specs.Lists.{same}
-use Rattle.words.specs.Crc.{crcLow, crcHigh, crcWords}
+use Rattle.words.specs.Crc.{registerWords, crcWords}
 use Rattle.line.specs.Layout.{endWords}
 use borrow.Author.Needs.{needs}
 use Rattle.line.proofs.area.end_stands.Statement.{statement}
@@ -26,11 +24,8 @@ returns c = c .same-words .ensures ∙ ap (same (now (c .before .before .before 
 crc-of-requires : tie.Need-crc-of-requires
 crc-of-requires c κs = search needs
 
-crc-low-requires : tie.Need-crc-low-requires
-crc-low-requires c κs = search needs
-
-crc-high-requires : tie.Need-crc-high-requires
-crc-high-requires c κs = search needs
+crc-words-requires : tie.Need-crc-words-requires
+crc-words-requires c κs = search needs
 
 slice-aggregate-same-words-2 : tie.Need-slice-aggregate-same-words-2
 slice-aggregate-same-words-2 c = search needs
@@ -41,10 +36,12 @@ same-words-requires-2 c κs = search needs
 returns-2 : tie.Need-returns-2
 unfolding endWords crcWords
 returns-2 c =
+    let a = c .before .before .before .before .before .before .before .args in
     c .same-words2 .ensures
-    ∙ ap (same (now (c .before .before .before .before .before .before .before .before .args .end)))
-    (ap₂ (λ (x y : ℕ). x ∷ y ∷ []) (c .before .before .before .crc-low .ensures ∙ ap crcLow (c .before .before .before .before .crc-of .ensures)) (c .before .before .crc-high .ensures ∙ ap crcHigh (c .before .before .before .before .crc-of .ensures))
-    ∙ sym (pick-true (crcWords (now (c .before .before .before .before .before .before .before .before .args .area))) [] (eq-eqb (c .before .before .before .before .before .before .before .before .args .flag) 1 (c .before .before .before .before .before .if1 .left))))
+    ∙ ap (same (now (a .end)))
+    (c .before .before .crc-words .ensures
+    ∙ ap registerWords (c .before .before .before .crc-of .ensures)
+    ∙ sym (pick-true (crcWords (now (a .area))) [] (eq-eqb (a .flag) 1 (c .before .before .before .before .if1 .left))))
 
 pub end-stands-spec : {M : Type 1} → statement M
 end-stands-spec =
@@ -54,8 +51,7 @@ end-stands-spec =
     same-words-requires
     returns
     crc-of-requires
-    crc-low-requires
-    crc-high-requires
+    crc-words-requires
     slice-aggregate-same-words-2
     same-words-requires-2
     returns-2)

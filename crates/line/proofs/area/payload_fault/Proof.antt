@@ -7,9 +7,9 @@ use native.Mathlib.Omega.{arith}
 use denote.Ref.{now}
 use lib.ListN.{length, take, drop, length-drop}
 use lib.Seq.{take-all}
-use Rattle.lists.specs.Tests.{lowest}
+use Rattle.lists.specs.Tests.{lowestOf}
 use Rattle.line.specs.Fixed.{isVariable}
-use Rattle.line.specs.Layout.{payloadAt, areaLength, areaOf, endOf}
+use Rattle.line.specs.Layout.{areaOf, endOf}
 use Rattle.line.specs.Check.{areaFaults, payloadFaults}
 use borrow.Author.Needs.{needs}
 use Rattle.line.proofs.area.payload_fault.Statement.{statement}
@@ -66,8 +66,8 @@ returns c =
     take-all (length line - (start + n)) (drop (start + n) line) (simp length-drop (omega arith)) in
     let e = c .before .before .before .before .area-length .ensures .0 in
     c .area-fault .ensures
-    ∙ ap (λ (b : Bool). lowest 15 (areaFaults (a .mode) b (a .flag) (take (start + n - start) (drop start line)) (take (length line - (start + n)) (drop (start + n) line)))) (c .before .before .before .is-variable .ensures)
-    ∙ ap₂ (λ (x y : List ℕ). lowest 15 (areaFaults (a .mode) (isVariable (a .block)) (a .flag) x y)) (ap (λ (k : ℕ). take k (drop start line)) (long ∙ e)) (rest ∙ ap (λ (k : ℕ). drop (start + k) line) e)
+    ∙ ap (λ (b : Bool). lowestOf (areaFaults (a .mode) b (a .flag) (take (start + n - start) (drop start line)) (take (length line - (start + n)) (drop (start + n) line)))) (c .before .before .before .is-variable .ensures)
+    ∙ ap₂ (λ (x y : List ℕ). lowestOf (areaFaults (a .mode) (isVariable (a .block)) (a .flag) x y)) (ap (λ (k : ℕ). take k (drop start line)) (long ∙ e)) (rest ∙ ap (λ (k : ℕ). drop (start + k) line) e)
 
 pub payload-fault-spec : {M : Type 1} → statement M
 payload-fault-spec =

@@ -1,17 +1,16 @@
 -- `line::check::fault_of` meets its contract. Assumes nothing.
-use mathlib.Core.Bool.{Bool}
-use mathlib.Core.Path.{_≡_, refl, sym, ap, ap₂, _∙_}
-use Prim.Native.Nat.{ℕ}
+use mathlib.Core.Path.{sym, ap, ap₂, _∙_}
 use denote.Ref.{now}
 use mathlib.Core.List.{List, _++_}
-use Rattle.lists.specs.Tests.{lowest, orNext}
-use Rattle.lists.proofs.Tests.{lowest-append}
+use Rattle.lists.specs.Tests.{Refusal, lowestOf, orNext}
+use Rattle.lists.proofs.Refusals.{lowest-append}
 use Rattle.line.specs.declared.systems.System.{System}
 use Rattle.line.specs.declared.settings.Settings.{Settings}
 use Rattle.line.specs.Systems.{systemOf}
 use Rattle.line.specs.Settings.{settingsFaults, settingsFault}
 use Rattle.line.specs.Check.{settingsOf, headFaults, payloadFaults, faults}
 use Rattle.line.proofs.SystemLaws.{room-of}
+use Rattle.line.proofs.CheckLaws.{head-rising, settings-rising}
 use borrow.Author.Needs.{needs}
 use Rattle.line.proofs.check.fault_of.Statement.{statement}
 use Rattle.line.proofs.check.fault_of.Tie as tie
@@ -39,19 +38,19 @@ or-next-requires-2 : tie.Need-or-next-requires-2
 or-next-requires-2 c κs = search needs
 
 returns : tie.Need-returns
-unfolding faults settingsFault settingsFaults headFaults
+unfolding faults settingsFault
 returns c =
     let a = c .before .before .before .before .before .before .before .args in
     let line = now (a .line) in
     let s = c .before .before .before .before .before .system-of .ensures in
     let t = c .before .before .before .before .before .before .before .pre .1 in
-    let payload : System → Settings → List Bool = (λ x y. payloadFaults x (a .mode) (y .block) (y .flag) line) in
+    let payload : System → Settings → List Refusal = (λ x y. payloadFaults x (a .mode) (y .block) (y .flag) line) in
     c .or-next2 .ensures
-    ∙ ap₂ orNext (c .before .before .before .before .head-fault .ensures ∙ ap (λ (x : System). lowest 3 (headFaults x line)) s)
+    ∙ ap₂ orNext (c .before .before .before .before .head-fault .ensures ∙ ap (λ (x : System). lowestOf (headFaults x line)) s)
     (c .before .or-next .ensures
-    ∙ ap₂ orNext (c .before .before .before .settings-fault .ensures ∙ ap (settingsFault (a .system)) t) (c .before .before .payload-fault .ensures ∙ ap₂ (λ (x : System) (y : Settings). lowest 15 (payload x y)) s t)
-    ∙ sym (lowest-append 9 5 (settingsFaults (systemOf (a .system)) (settingsOf line)) (payload (systemOf (a .system)) (settingsOf line)) refl))
-    ∙ sym (lowest-append 2 7 (headFaults (systemOf (a .system)) line) (settingsFaults (systemOf (a .system)) (settingsOf line) ++ payload (systemOf (a .system)) (settingsOf line)) refl)
+    ∙ ap₂ orNext (c .before .before .before .settings-fault .ensures ∙ ap (settingsFault (a .system)) t) (c .before .before .payload-fault .ensures ∙ ap₂ (λ (x : System) (y : Settings). lowestOf (payload x y)) s t)
+    ∙ sym (lowest-append (settingsFaults (systemOf (a .system)) (settingsOf line)) (payload (systemOf (a .system)) (settingsOf line)) (settings-rising _ _)))
+    ∙ sym (lowest-append (headFaults (systemOf (a .system)) line) (settingsFaults (systemOf (a .system)) (settingsOf line) ++ payload (systemOf (a .system)) (settingsOf line)) (head-rising _ _))
 
 pub fault-of-spec : {M : Type 1} → statement M
 fault-of-spec =

@@ -1,12 +1,11 @@
 -- `line::head::crc_stands` meets its contract. Assumes nothing.
-use mathlib.Core.Path.{_≡_, refl, sym, ap, ap₂, _∙_}
+use mathlib.Core.Path.{_≡_, ap, ap₂, _∙_}
 use Prim.Native.Nat.{ℕ, _+_, _-_}
-use mathlib.Core.List.{List, [], _∷_}
 use denote.Ref.{now}
 use native.Mathlib.Omega.{arith}
 use lib.ListN.{take, drop}
 use Rattle.lists.specs.Lists.{same}
-use Rattle.words.specs.Crc.{crcLow, crcHigh, crcWords}
+use Rattle.words.specs.Crc.{registerWords, crcWords}
 use borrow.Author.Needs.{needs}
 use Rattle.line.proofs.head.crc_stands.Statement.{statement}
 use Rattle.line.proofs.head.crc_stands.Tie as tie
@@ -41,11 +40,8 @@ part-same-words-start c = search needs
 part-same-words-end : tie.Need-part-same-words-end
 part-same-words-end c = search needs
 
-crc-low-requires : tie.Need-crc-low-requires
-crc-low-requires c κs = search needs
-
-crc-high-requires : tie.Need-crc-high-requires
-crc-high-requires c κs = search needs
+crc-words-requires : tie.Need-crc-words-requires
+crc-words-requires c κs = search needs
 
 slice-aggregate-same-words : tie.Need-slice-aggregate-same-words
 slice-aggregate-same-words c = search needs
@@ -56,11 +52,11 @@ same-words-requires c κs = search needs
 returns : tie.Need-returns
 unfolding crcWords
 returns c =
-    let a = c .before .before .before .before .before .before .before .before .args in
+    let a = c .before .before .before .before .before .before .before .args in
     let two : a .e + 2 - a .e ≡ 2 = omega arith in
     c .same-words .ensures
     ∙ ap₂ same (ap (λ (n : ℕ). take n (drop (a .e) (now (a .line)))) two)
-    (ap₂ (λ (x y : ℕ). x ∷ y ∷ []) (c .before .before .before .crc-low .ensures ∙ ap crcLow (c .before .before .before .before .before .crc-of .ensures)) (c .before .before .crc-high .ensures ∙ ap crcHigh (c .before .before .before .before .before .crc-of .ensures)))
+    (c .before .before .crc-words .ensures ∙ ap registerWords (c .before .before .before .before .crc-of .ensures))
 
 pub crc-stands-spec : {M : Type 1} → statement M
 crc-stands-spec =
@@ -76,8 +72,7 @@ crc-stands-spec =
     sub-same-words
     part-same-words-start
     part-same-words-end
-    crc-low-requires
-    crc-high-requires
+    crc-words-requires
     slice-aggregate-same-words
     same-words-requires
     returns)

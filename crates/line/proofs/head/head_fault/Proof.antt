@@ -5,7 +5,7 @@ use mathlib.Core.Bool.{not}
 use mathlib.Core.List.{[], _∷_}
 use denote.Ref.{now}
 use Rattle.lists.specs.Lists.{part, same}
-use Rattle.lists.proofs.Tests.{Lowest, no-more, low-step}
+use Rattle.lists.proofs.Refusals.{LowestOf, low-none, low-step}
 use Rattle.line.specs.Check.{crcStands, headFaults}
 use borrow.Author.Needs.{needs}
 use Rattle.line.proofs.head.head_fault.Statement.{statement}
@@ -100,14 +100,14 @@ unfolding headFaults crcStands
 returns c =
     let a = c .before .before .before .before .before .before .before .before .before .before .before .before .before .before .before .before .before .before .before .before .before .before .args in
     let sum = ap (λ (x : ℕ). same (part 56 1 (now (a .line))) (x ∷ [])) (c .before .before .before .before .before .before .before .before .before .before .before .before .before .before .before .before .before .before .checksum-of .ensures) in
-    let lowest : Lowest 3 (headFaults (a .s) (now (a .line))) (c .or-else7 .result) =
+    let lowest : LowestOf (headFaults (a .s) (now (a .line))) (c .or-else7 .result) =
     low-step 3 (c .or-else7 .ensures) (ap not (c .before .is-timed .ensures))
     (low-step 4 (c .before .before .or-else6 .ensures) (ap not (c .before .before .before .same-words2 .ensures))
     (low-step 5 (c .before .before .before .before .before .before .or-else5 .ensures) (ap not (c .before .before .before .before .before .before .before .is-formed .ensures))
     (low-step 6 (c .before .before .before .before .before .before .before .before .or-else4 .ensures) (ap not (c .before .before .before .before .before .before .before .before .before .same-words .ensures ∙ sum))
     (low-step 7 (c .before .before .before .before .before .before .before .before .before .before .before .before .or-else3 .ensures) (ap not (c .before .before .before .before .before .before .before .before .before .before .before .before .before .crc-stands2 .ensures))
     (low-step 8 (c .before .before .before .before .before .before .before .before .before .before .before .before .before .before .or-else2 .ensures) (ap not (c .before .before .before .before .before .before .before .before .before .before .before .before .before .before .before .crc-stands .ensures))
-    (low-step 9 (c .before .before .before .before .before .before .before .before .before .before .before .before .before .before .before .before .or-else .ensures) (ap not (c .before .before .before .before .before .before .before .before .before .before .before .before .before .before .before .before .before .is-numbered .ensures)) (no-more 10))))))) in
+    (low-step 9 (c .before .before .before .before .before .before .before .before .before .before .before .before .before .before .before .before .or-else .ensures) (ap not (c .before .before .before .before .before .before .before .before .before .before .before .before .before .before .before .before .before .is-numbered .ensures)) low-none)))))) in
     lowest .is
 
 pub head-fault-spec : {M : Type 1} → statement M

@@ -1,25 +1,23 @@
 -- `line::head::low_into` meets its contract. Assumes nothing.
 use borrow.Author.Needs.{needs}
-use mathlib.Core.Path.{_≡_, refl, sym, ap, ap₂, _∙_}
-use Prim.Native.Nat.{ℕ, _+_, _%_, _≤_, _<_, _-_}
-use mathlib.Core.List.{List, _++_, map}
-use denote.Ref.{now}
+use mathlib.Core.Path.{refl}
+use Prim.Native.Nat.{_-_}
+use mathlib.Core.List.{map}
 use native.Mathlib.Omega.{arith}
-use lib.ListN.{length, take, set, length-set, length-map}
+use lib.ListN.{length}
 use Rattle.line.specs.Check.{low}
-use Rattle.lists.proofs.Lists.{getD-map-in}
-use Rattle.lists.proofs.Loops.{copy-next, copy-end}
+use Rattle.lists.proofs.Loops.{Filling, map-start, map-turn, map-end}
 use Rattle.line.proofs.head.low_into.Statement.{statement}
 use Rattle.line.proofs.head.low_into.Tie as tie
 
 abbrev Inv-loop : tie.InvT-loop
-Inv-loop out₀ src i₀ out i = (i ≤ length src) × (length out ≡ length out₀) × (take i out ≡ take i (map low src))
+Inv-loop out₀ src i₀ out i = Filling (map low src) out₀ out i
 
 abbrev μ-loop : tie.MeasureT-loop
 μ-loop out₀ src i₀ out i = length src - i
 
 loop-holds : tie.Need-loop-holds Inv-loop μ-loop
-loop-holds c = (search needs, refl, refl)
+loop-holds c = map-start low (c .args .src .now) _ (c .pre)
 
 mul-out : tie.Need-mul-out Inv-loop μ-loop
 mul-out c = search needs
@@ -31,7 +29,7 @@ cast-out : tie.Need-cast-out Inv-loop μ-loop
 cast-out c = search needs
 
 slice-write-out : tie.Need-slice-write-out Inv-loop μ-loop
-slice-write-out c = search needs
+slice-write-out c = omega (arith, c .before .before .loop .inv .same, c .before .before .before .pre)
 
 add-i : tie.Need-add-i Inv-loop μ-loop
 add-i c = search needs
@@ -40,21 +38,13 @@ loop-less : tie.Need-loop-less Inv-loop μ-loop
 loop-less c = search needs
 
 loop-again : tie.Need-loop-again Inv-loop μ-loop
-loop-again c =
-    let l = c .before .before .loop in
-    let src = now (c .before .before .before .args .src) in
-    let inside : l .i < length src = search needs in
-    let more : l .i < length (map low src) = omega (arith, length-map src low) in
-    (search needs, search needs, copy-next (l .i) _ (l .out) (map low src) (search needs) more (sym (getD-map-in low src (l .i) inside)) (l .inv .2))
+loop-again c = map-turn low (c .before .before .before .args .src .now) _ _ _ _ (c .before .before .loop .inv) (c .before .loop-test .taken) refl
 
 same-length : tie.Need-same-length Inv-loop μ-loop
-same-length c = search needs
+same-length c = c .before .loop .inv .same
 
 returns : tie.Need-returns Inv-loop μ-loop
-returns c =
-    let l = c .before .loop in
-    let src = now (c .before .before .args .src) in
-    copy-end (l .i) (l .out) (map low src) (search needs) (omega (arith, length-map src low)) (l .inv .2)
+returns c = map-end low (c .before .before .args .src .now) _ _ _ (c .before .loop .inv) (c .loop-test .left)
 
 pub low-into-spec : {M : Type 1} → statement M
 low-into-spec =

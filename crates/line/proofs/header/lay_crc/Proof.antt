@@ -1,8 +1,8 @@
 -- `line::header::lay_crc` meets its contract. Assumes nothing.
-use mathlib.Core.Path.{ap, ap₂, _∙_, subst}
+use mathlib.Core.Path.{ap, _∙_, subst}
 use Prim.Native.Nat.{ℕ}
-use mathlib.Core.List.{List, [], _∷_}
-use Rattle.words.specs.Crc.{crcLow, crcHigh, crcWords}
+use mathlib.Core.List.{List}
+use Rattle.words.specs.Crc.{registerWords, crcWords}
 use Rattle.line.specs.Cuts.{Laid}
 use borrow.Author.Needs.{needs}
 use Rattle.line.proofs.header.lay_crc.Statement.{statement}
@@ -23,11 +23,8 @@ part-crc-of-end c = search needs
 crc-of-requires : tie.Need-crc-of-requires
 crc-of-requires c κs = search needs
 
-crc-low-requires : tie.Need-crc-low-requires
-crc-low-requires c κs = search needs
-
-crc-high-requires : tie.Need-crc-high-requires
-crc-high-requires c κs = search needs
+crc-words-requires : tie.Need-crc-words-requires
+crc-words-requires c κs = search needs
 
 slice-aggregate-lay-words : tie.Need-slice-aggregate-lay-words
 slice-aggregate-lay-words c = search needs
@@ -38,9 +35,9 @@ lay-words-requires c κs = search needs
 returns : tie.Need-returns
 unfolding crcWords
 returns c =
-    let a = c .before .before .before .before .before .before .before .args in
+    let a = c .before .before .before .before .before .before .args in
     subst (λ (ws : List ℕ). Laid (a .e) ws (a .t1) (c .lay-words .result))
-    (ap₂ (λ (x y : ℕ). x ∷ y ∷ []) (c .before .before .before .crc-low .ensures ∙ ap crcLow (c .before .before .before .before .crc-of .ensures)) (c .before .before .crc-high .ensures ∙ ap crcHigh (c .before .before .before .before .crc-of .ensures)))
+    (c .before .before .crc-words .ensures ∙ ap registerWords (c .before .before .before .crc-of .ensures))
     (c .lay-words .ensures)
 
 pub lay-crc-spec : {M : Type 1} → statement M
@@ -52,8 +49,7 @@ lay-crc-spec =
     part-crc-of-start
     part-crc-of-end
     crc-of-requires
-    crc-low-requires
-    crc-high-requires
+    crc-words-requires
     slice-aggregate-lay-words
     lay-words-requires
     returns)

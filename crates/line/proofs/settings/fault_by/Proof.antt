@@ -3,7 +3,7 @@ use mathlib.Core.Path.{_≡_, sym, ap, _∙_}
 use mathlib.Core.Bool.{false, not}
 use lib.Dec.{eqb, ltb}
 use borrow.Author.Tests.{eq-eqb, ne-eqb, lt-ltb, le-ltb}
-use Rattle.lists.proofs.Tests.{Lowest, no-more, low-hit, low-miss, low-step}
+use Rattle.lists.proofs.Refusals.{LowestOf, low-none, low-hit, low-miss, low-step}
 use Rattle.line.specs.declared.systems.System.{System}
 use Rattle.line.specs.Systems.{systemOf}
 use Rattle.line.specs.Fixed.{blockRefused}
@@ -38,7 +38,7 @@ unfolding settingsFault settingsFaults
 returns c =
     let x = c .before .before .before in
     let g = x .before .args in
-    let l : Lowest 10 (settingsFaults (systemOf (g .system)) (g .settings)) 10 =
+    let l : LowestOf (settingsFaults (systemOf (g .system)) (g .settings)) 10 =
     low-hit 10 (ap not (ne-eqb _ _ (λ e. c .if1 .taken (e ∙ sym (ap (λ (y : System). y .code) (x .system-of .ensures)))))) in
     l .is
 
@@ -47,7 +47,7 @@ unfolding settingsFault settingsFaults
 returns-2 c =
     let t = c .before .before in
     let g = t .before .before .before .before .args in
-    let l : Lowest 10 (settingsFaults (systemOf (g .system)) (g .settings)) 11 = low-miss 10 (code-good t) (low-hit 11 (lt-ltb _ _ (c .if2 .taken))) in
+    let l : LowestOf (settingsFaults (systemOf (g .system)) (g .settings)) 11 = low-miss 10 (code-good t) (low-hit 11 (lt-ltb _ _ (c .if2 .taken))) in
     l .is
 
 block-refused-requires : tie.Need-block-refused-requires
@@ -60,7 +60,7 @@ returns-3 c =
     let u = r .before in
     let t = u .before .before in
     let g = t .before .before .before .before .args in
-    let l : Lowest 10 (settingsFaults (systemOf (g .system)) (g .settings)) 12 =
+    let l : LowestOf (settingsFaults (systemOf (g .system)) (g .settings)) 12 =
     low-miss 10 (code-good t) (low-miss 11 (aai-good u) (low-hit 12 (sym (asked r) ∙ c .if3 .taken))) in
     l .is
 
@@ -71,7 +71,7 @@ returns-4 c =
     let u = r .before in
     let t = u .before .before in
     let g = t .before .before .before .before .args in
-    let l : Lowest 10 (settingsFaults (systemOf (g .system)) (g .settings)) 13 =
+    let l : LowestOf (settingsFaults (systemOf (g .system)) (g .settings)) 13 =
     low-miss 10 (code-good t) (low-miss 11 (aai-good u) (low-miss 12 (sym (asked r) ∙ c .before .before .if3 .left) (low-hit 13 (lt-ltb _ _ (c .if4 .taken))))) in
     l .is
 
@@ -91,12 +91,12 @@ returns-5 c =
     let u = r .before in
     let t = u .before .before in
     let g = t .before .before .before .before .args in
-    let l : Lowest 10 (settingsFaults (systemOf (g .system)) (g .settings)) (c .or-else .result) =
+    let l : LowestOf (settingsFaults (systemOf (g .system)) (g .settings)) (c .or-else .result) =
     low-miss 10 (code-good t)
     (low-miss 11 (aai-good u)
     (low-miss 12 (sym (asked r) ∙ e .if3 .left)
     (low-miss 13 (le-ltb _ _ (f .if4 .left))
-    (low-step 14 (c .or-else .ensures) (ap not (z .is-unreserved .ensures)) (no-more 15))))) in
+    (low-step 14 (c .or-else .ensures) (ap not (z .is-unreserved .ensures)) low-none)))) in
     l .is
 
 pub fault-by-spec : {M : Type 1} → statement M

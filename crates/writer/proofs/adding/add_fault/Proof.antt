@@ -1,49 +1,17 @@
 -- `writer::adding::add_fault` meets its contract. Assumes nothing.
 use mathlib.Core.Path.{_≡_, sym, ap, ap₂, _∙_}
-use mathlib.Core.List.{List}
 use Prim.Native.Nat.{ℕ}
-use mathlib.Core.Bool.{Bool, true, false, _||_, not}
+use mathlib.Core.Bool.{Bool, false, _||_, not}
 use lib.ListN.{length}
-use Rattle.lists.specs.Tests.{pick}
-use Rattle.lists.proofs.Tests.{pick-true, pick-false}
+use Rattle.lists.proofs.Refusals.{LowestOf, low-none, low-hit, low-miss, low-step}
 use Rattle.line.specs.Check.{fitsLength}
-use Rattle.course.specs.Course.{isAt, impossibleAfter}
+use Rattle.course.specs.Course.{impossibleAfter}
 use Rattle.writer.specs.declared.state.Writer.{Writer}
 use Rattle.writer.specs.State.{isPart, misshapen, impossible, endIn}
-use Rattle.writer.specs.Adding.{valued, illShaped, isFull, isOther, addFault}
+use Rattle.writer.specs.Adding.{valued, illShaped, isFull, addFaults, addFault}
 use borrow.Author.Needs.{needs}
 use Rattle.writer.proofs.adding.add_fault.Statement.{statement}
 use Rattle.writer.proofs.adding.add_fault.Tie as tie
-
--- the first condition that holds gives the number: each number, where the conditions before it do not hold
-module _ (w : Writer) (long kind : ℕ) (vs : List ℕ) where
-  refused-1 : not (fitsLength (w .system) (w .mode) long) ≡ true → 1 ≡ addFault w long kind vs
-  unfolding addFault
-  refused-1 e = sym (pick-true 1 _ e)
-
-  module _ (fit : not (fitsLength (w .system) (w .mode) long) ≡ false) where
-    refused-2 : impossible w ≡ true → 2 ≡ addFault w long kind vs
-    unfolding addFault
-    refused-2 e = sym (pick-false 1 _ fit ∙ pick-true 2 _ e)
-
-    module _ (possible : impossible w ≡ false) where
-      refused-17 : not (valued (w .mode) vs) ≡ true → 17 ≡ addFault w long kind vs
-      unfolding addFault
-      refused-17 e = sym (pick-false 1 _ fit ∙ pick-false 2 _ possible ∙ pick-true 17 _ e)
-
-      module _ (good : not (valued (w .mode) vs) ≡ false) where
-        refused-18 : {b : Bool} → b ≡ illShaped (w .place) (w .settings .block) kind (length vs) → b ≡ true → 18 ≡ addFault w long kind vs
-        unfolding addFault
-        refused-18 f e = sym (pick-false 1 _ fit ∙ pick-false 2 _ possible ∙ pick-false 17 _ good ∙ pick-true 18 _ (sym f ∙ e))
-
-        module _ (shaped : illShaped (w .place) (w .settings .block) kind (length vs) ≡ false) where
-          refused-19 : isFull (endIn w) (w .place) ≡ true → 19 ≡ addFault w long kind vs
-          unfolding addFault
-          refused-19 e = sym (pick-false 1 _ fit ∙ pick-false 2 _ possible ∙ pick-false 17 _ good ∙ pick-false 18 _ shaped ∙ pick-true 19 _ e)
-
-          last-20 : isFull (endIn w) (w .place) ≡ false → pick (not (isAt (w .place)) || isOther (w .rest) kind (length vs)) 20 0 ≡ addFault w long kind vs
-          unfolding addFault
-          last-20 e = sym (pick-false 1 _ fit ∙ pick-false 2 _ possible ∙ pick-false 17 _ good ∙ pick-false 18 _ shaped ∙ pick-false 19 _ e)
 
 -- the tests of the state and of the room, by what the look found
 impossible-by : (w : Writer) (i b m : Bool) → i ≡ impossibleAfter (w .system) (w .last) (w .settings) (w .place) b → b ≡ isPart (w .rest) → m ≡ misshapen (w .rest)
@@ -91,9 +59,11 @@ is-fit-requires : tie.Need-is-fit-requires
 is-fit-requires c κs = search needs
 
 returns : tie.Need-returns
+unfolding addFault
 returns c =
     let a = c .before .before .before .before .args in
-    refused-1 (a .w) (a .long) (a .kind) (a .values .now) (sym (ap not (c .before .is-fit .ensures)) ∙ c .if1 .taken)
+    let l : LowestOf (addFaults (a .w) (a .long) (a .kind) (a .values .now)) 1 = low-hit 1 (sym (ap not (c .before .is-fit .ensures)) ∙ c .if1 .taken) in
+    l .is
 
 is-part-requires : tie.Need-is-part-requires
 is-part-requires c κs = search needs
@@ -105,43 +75,51 @@ is-misshapen-requires : tie.Need-is-misshapen-requires
 is-misshapen-requires c κs = search needs
 
 returns-2 : tie.Need-returns-2
+unfolding addFault
 returns-2 c =
     let e1 = c .before .before .before .before .before in
     let a = e1 .before .before .before .before .args in
-    refused-2 (a .w) (a .long) (a .kind) (a .values .now) (fit e1) (sym (looked (c .before .before)) ∙ c .if2 .taken)
+    let l : LowestOf (addFaults (a .w) (a .long) (a .kind) (a .values .now)) 2 = low-miss 1 (fit e1) (low-hit 2 (sym (looked (c .before .before)) ∙ c .if2 .taken)) in
+    l .is
 
 is-valued-requires : tie.Need-is-valued-requires
 is-valued-requires c κs = search needs
 
 returns-3 : tie.Need-returns-3
+unfolding addFault
 returns-3 c =
     let e2 = c .before .before in
     let e1 = e2 .before .before .before .before .before in
     let a = e1 .before .before .before .before .args in
-    refused-17 (a .w) (a .long) (a .kind) (a .values .now) (fit e1) (possible e2) (sym (ap not (c .before .is-valued .ensures)) ∙ c .if3 .taken)
+    let l : LowestOf (addFaults (a .w) (a .long) (a .kind) (a .values .now)) 17 = low-miss 1 (fit e1) (low-miss 2 (possible e2) (low-hit 17 (sym (ap not (c .before .is-valued .ensures)) ∙ c .if3 .taken))) in
+    l .is
 
 is-ill-shaped-requires : tie.Need-is-ill-shaped-requires
 is-ill-shaped-requires c κs = c .before .before .before .before .before .look .ensures .2
 
 returns-4 : tie.Need-returns-4
+unfolding addFault
 returns-4 c =
     let e3 = c .before .before in
     let e2 = e3 .before .before in
     let e1 = e2 .before .before .before .before .before in
     let a = e1 .before .before .before .before .args in
-    refused-18 (a .w) (a .long) (a .kind) (a .values .now) (fit e1) (possible e2) (good e3) (c .before .is-ill-shaped .ensures) (c .if4 .taken)
+    let l : LowestOf (addFaults (a .w) (a .long) (a .kind) (a .values .now)) 18 = low-miss 1 (fit e1) (low-miss 2 (possible e2) (low-miss 17 (good e3) (low-hit 18 (sym (c .before .is-ill-shaped .ensures) ∙ c .if4 .taken)))) in
+    l .is
 
 is-full-requires : tie.Need-is-full-requires
 is-full-requires c κs = search needs
 
 returns-5 : tie.Need-returns-5
+unfolding addFault
 returns-5 c =
     let e4 = c .before .before in
     let e3 = e4 .before .before in
     let e2 = e3 .before .before in
     let e1 = e2 .before .before .before .before .before in
     let a = e1 .before .before .before .before .args in
-    refused-19 (a .w) (a .long) (a .kind) (a .values .now) (fit e1) (possible e2) (good e3) (shaped e4) (sym (filled (c .before)) ∙ c .if5 .taken)
+    let l : LowestOf (addFaults (a .w) (a .long) (a .kind) (a .values .now)) 19 = low-miss 1 (fit e1) (low-miss 2 (possible e2) (low-miss 17 (good e3) (low-miss 18 (shaped e4) (low-hit 19 (sym (filled (c .before)) ∙ c .if5 .taken))))) in
+    l .is
 
 is-at-requires : tie.Need-is-at-requires
 is-at-requires c κs = search needs
@@ -153,6 +131,7 @@ or-else-requires : tie.Need-or-else-requires
 or-else-requires c κs = search needs
 
 returns-6 : tie.Need-returns-6
+unfolding addFault
 returns-6 c =
     let o = c .before in
     let e5 = o .before .before in
@@ -161,9 +140,15 @@ returns-6 c =
     let e2 = e3 .before .before in
     let e1 = e2 .before .before .before .before .before in
     let a = e1 .before .before .before .before .args in
-    c .or-else .ensures
-    ∙ ap₂ (λ (x y : Bool). pick (not x || y) 20 0) (o .before .is-at .ensures) (o .is-other .ensures)
-    ∙ last-20 (a .w) (a .long) (a .kind) (a .values .now) (fit e1) (possible e2) (good e3) (shaped e4) (sym (filled (e5 .before)) ∙ e5 .if5 .left)
+    let bad = ap₂ (λ (x y : Bool). not x || y) (o .before .is-at .ensures) (o .is-other .ensures) in
+    let l : LowestOf (addFaults (a .w) (a .long) (a .kind) (a .values .now)) (c .or-else .result) =
+    low-miss 1 (fit e1)
+    (low-miss 2 (possible e2)
+    (low-miss 17 (good e3)
+    (low-miss 18 (shaped e4)
+    (low-miss 19 (sym (filled (e5 .before)) ∙ e5 .if5 .left)
+    (low-step 20 (c .or-else .ensures) bad low-none))))) in
+    l .is
 
 pub add-fault-spec : {M : Type 1} → statement M
 add-fault-spec =

@@ -1,24 +1,21 @@
 -- `writer::adding::all_below` meets its contract. Assumes nothing.
-use mathlib.Core.Path.{_≡_, refl, _∙_}
-use Prim.Native.Nat.{_-_, _≤_}
-use mathlib.Core.Bool.{_&&_}
-use denote.Ref.{now}
+use mathlib.Core.Path.{refl}
+use Prim.Native.Nat.{_-_}
 use lib.Dec.{ltb}
-use lib.ListN.{length, drop}
-use Rattle.lists.specs.Lists.{each}
-use Rattle.lists.proofs.Loops.{each-next, each-end}
+use lib.ListN.{length}
+use Rattle.lists.proofs.Loops.{Testing, test-start, test-turn, test-end}
 use borrow.Author.Needs.{needs}
 use Rattle.writer.proofs.adding.all_below.Statement.{statement}
 use Rattle.writer.proofs.adding.all_below.Tie as tie
 
 abbrev Inv-loop : tie.InvT-loop
-Inv-loop limit s ok₀ i₀ ok i = (i ≤ length s) × ((ok && each (λ v. ltb v limit) (drop i s)) ≡ each (λ v. ltb v limit) s)
+Inv-loop limit s ok₀ i₀ ok i = Testing (λ v. ltb v limit) s ok i
 
 abbrev μ-loop : tie.MeasureT-loop
 μ-loop limit s ok₀ i₀ ok i = length s - i
 
 loop-holds : tie.Need-loop-holds Inv-loop μ-loop
-loop-holds c = (search needs, refl)
+loop-holds c = test-start _ _
 
 mul-ok : tie.Need-mul-ok Inv-loop μ-loop
 mul-ok c = search needs
@@ -34,14 +31,13 @@ loop-less c = search needs
 
 loop-again : tie.Need-loop-again Inv-loop μ-loop
 loop-again c =
-    let l = c .before .before .loop in
     let a = c .before .before .before .args in
-    (search needs, each-next (λ v. ltb v (a .limit)) (l .ok) (l .i) (now (a .s)) (c .before .loop-test .taken) ∙ l .inv .1)
+    test-turn (λ v. ltb v (a .limit)) _ _ _ _ (c .before .before .loop .inv) (c .before .loop-test .taken) refl
 
 returns : tie.Need-returns Inv-loop μ-loop
 returns c =
     let a = c .before .before .args in
-    each-end (λ v. ltb v (a .limit)) _ _ (now (a .s)) (c .loop-test .left) ∙ c .before .loop .inv .1
+    test-end (λ v. ltb v (a .limit)) _ _ _ (c .before .loop .inv) (c .loop-test .left)
 
 pub all-below-spec : {M : Type 1} → statement M
 all-below-spec =

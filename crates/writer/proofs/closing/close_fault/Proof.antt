@@ -1,10 +1,10 @@
 -- `writer::closing::close_fault` meets its contract. Assumes nothing.
-use mathlib.Core.Path.{refl, ap, ap₂, _∙_}
+use mathlib.Core.Path.{ap, ap₂, _∙_}
 use Prim.Native.Nat.{ℕ}
 use mathlib.Core.Bool.{Bool, _&&_, _||_, not}
+use Rattle.lists.proofs.Refusals.{LowestOf, low-none, low-step}
 use Rattle.writer.specs.Adding.{isFull}
-use Rattle.writer.specs.Closing.{closeFault}
-use Rattle.writer.proofs.StateLaws.{next-refusal, no-refusal}
+use Rattle.writer.specs.Closing.{closeFaults, closeFault}
 use borrow.Author.Needs.{needs}
 use Rattle.writer.proofs.closing.close_fault.Statement.{statement}
 use Rattle.writer.proofs.closing.close_fault.Tie as tie
@@ -39,11 +39,14 @@ or-else-requires-3 c κs = search needs
 returns : tie.Need-returns
 unfolding closeFault
 returns c =
-    let w = c .before .before .before .before .before .before .before .before .before .args .w in
-    let full = c .before .before .before .before .before .before .is-full .ensures ∙ ap (λ (e : ℕ). isFull e (w .place)) (c .before .before .before .before .before .before .before .end-in .ensures) in
-    next-refusal 1 (c .or-else3 .ensures) (ap not (c .before .is-fit .ensures)) refl
-    (next-refusal 2 (c .before .before .or-else2 .ensures) (c .before .before .before .is-impossible .ensures) refl
-    (next-refusal 20 (c .before .before .before .before .or-else .ensures) (ap₂ (λ (a b : Bool). not a || b) (c .before .before .before .before .before .is-at .ensures) (ap₂ (λ (a b : Bool). a && not b) (c .before .before .before .before .before .before .before .before .is-part .ensures) full)) refl no-refusal)) .is
+    let g = c .before .before .before .before .before .before .before .before .before .args in
+    let full = c .before .before .before .before .before .before .is-full .ensures ∙ ap (λ (e : ℕ). isFull e (g .w .place)) (c .before .before .before .before .before .before .before .end-in .ensures) in
+    let left = ap₂ (λ (a b : Bool). a && not b) (c .before .before .before .before .before .before .before .before .is-part .ensures) full in
+    let l : LowestOf (closeFaults (g .w) (g .long)) (c .or-else3 .result) =
+    low-step 1 (c .or-else3 .ensures) (ap not (c .before .is-fit .ensures))
+    (low-step 2 (c .before .before .or-else2 .ensures) (c .before .before .before .is-impossible .ensures)
+    (low-step 20 (c .before .before .before .before .or-else .ensures) (ap₂ (λ (a b : Bool). not a || b) (c .before .before .before .before .before .is-at .ensures) left) low-none)) in
+    l .is
 
 pub close-fault-spec : {M : Type 1} → statement M
 close-fault-spec =

@@ -1,4 +1,5 @@
 -- `writer::closing::seal` meets its contract. Assumes nothing.
+use mathlib.Core.Path.{refl}
 use native.Mathlib.Omega.{arith}
 use lib.ListN.{length-set}
 use Rattle.writer.proofs.Calls.{seal-is, seal-none}
@@ -27,8 +28,11 @@ part-crc-of-end c = search needs
 crc-of-requires : tie.Need-crc-of-requires
 crc-of-requires c κs = search needs
 
-crc-low-requires : tie.Need-crc-low-requires
-crc-low-requires c κs = search needs
+crc-words-requires : tie.Need-crc-words-requires
+crc-words-requires c κs = search needs
+
+array-read-line : tie.Need-array-read-line
+array-read-line c = search needs
 
 mul-line : tie.Need-mul-line
 mul-line c = search needs
@@ -36,8 +40,8 @@ mul-line c = search needs
 slice-write-line : tie.Need-slice-write-line
 slice-write-line c = search needs
 
-crc-high-requires : tie.Need-crc-high-requires
-crc-high-requires c κs = search needs
+array-read-line-2 : tie.Need-array-read-line-2
+array-read-line-2 c = search needs
 
 add-line : tie.Need-add-line
 add-line c = search needs
@@ -46,16 +50,16 @@ mul-line-2 : tie.Need-mul-line-2
 mul-line-2 c = search needs
 
 slice-write-line-2 : tie.Need-slice-write-line-2
-slice-write-line-2 c = simp length-set (omega (arith, c .before .before .before .before .before .before .before .before .before .pre .0, c .before .before .before .before .before .before .before .before .before .pre .1, c .before .before .before .before .before .before .before .before .before .pre .2))
+slice-write-line-2 c = let p = c .before .before .before .before .before .before .before .before .pre in simp length-set (omega (arith, p .0, p .1, p .2))
 
 same-length : tie.Need-same-length
 same-length c = search needs
 
 returns : tie.Need-returns
 returns c =
-    let a = c .before .before .before .before .before .before .before .before .before .args in
-    let p = c .before .before .before .before .before .before .before .before .before .pre in
-    seal-is (a .s) (a .flag) (a .line .now) _ _ _ (c .before .before .before .before .before .before .before .if1 .taken) (p .0) (p .1) (p .2) (c .before .before .crc-of .ensures) (c .before .crc-low .ensures) (c .crc-high .ensures)
+    let a = c .before .before .before .before .before .before .before .before .args in
+    let p = c .before .before .before .before .before .before .before .before .pre in
+    seal-is (a .s) (a .flag) (a .line .now) _ _ _ _ (c .before .before .before .before .before .before .if1 .taken) (p .0) (p .1) (p .2) (c .before .crc-of .ensures) (c .crc-words .ensures) refl refl
 
 returns-2 : tie.Need-returns-2
 returns-2 c =
@@ -74,10 +78,11 @@ seal-spec =
     part-crc-of-start
     part-crc-of-end
     crc-of-requires
-    crc-low-requires
+    crc-words-requires
+    array-read-line
     mul-line
     slice-write-line
-    crc-high-requires
+    array-read-line-2
     add-line
     mul-line-2
     slice-write-line-2

@@ -3,7 +3,7 @@ use mathlib.Core.Path.{refl}
 use Prim.Native.Nat.{_-_}
 use native.Mathlib.Omega.{arith}
 use lib.ListN.{length}
-use Rattle.writer.proofs.FillLaws.{Filling, fill-start, fill-turn, fill-end}
+use Rattle.lists.proofs.Loops.{Filling, fill-start, fill-turn, fill-end}
 use borrow.Author.Needs.{needs}
 use Rattle.writer.proofs.fill.copy_in.Statement.{statement}
 use Rattle.writer.proofs.fill.copy_in.Tie as tie

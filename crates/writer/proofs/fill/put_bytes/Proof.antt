@@ -1,12 +1,10 @@
 -- `writer::fill::put_bytes` meets its contract. Assumes nothing.
-use mathlib.Core.Path.{sym, _∙_}
 use mathlib.Core.List.{map}
 use Prim.Native.Nat.{_-_}
 use native.Mathlib.Omega.{arith}
-use lib.ListN.{length, length-map}
-use Rattle.lists.proofs.Lists.{getD-map-in}
+use lib.ListN.{length}
+use Rattle.lists.proofs.Loops.{Filling, map-start, map-turn, map-end}
 use Rattle.words.specs.Forms.{byteWord}
-use Rattle.writer.proofs.FillLaws.{Filling, fill-start, fill-turn, fill-end}
 use borrow.Author.Needs.{needs}
 use Rattle.writer.proofs.fill.put_bytes.Statement.{statement}
 use Rattle.writer.proofs.fill.put_bytes.Tie as tie
@@ -18,7 +16,7 @@ abbrev μ-loop : tie.MeasureT-loop
 μ-loop values out₀ i₀ out i = length values - i
 
 loop-holds : tie.Need-loop-holds Inv-loop μ-loop
-loop-holds c = fill-start _ _ (c .before .before .pre ∙ sym (length-map (c .before .before .args .values .now) byteWord))
+loop-holds c = map-start byteWord (c .before .before .args .values .now) _ (c .before .before .pre)
 
 mul-byte-word : tie.Need-mul-byte-word Inv-loop μ-loop
 mul-byte-word c = search needs
@@ -42,16 +40,13 @@ loop-less : tie.Need-loop-less Inv-loop μ-loop
 loop-less c = search needs
 
 loop-again : tie.Need-loop-again Inv-loop μ-loop
-loop-again c =
-    let t = c .before .before in
-    let v = t .before .before .before .before .args .values .now in
-    fill-turn _ _ _ _ _ (t .before .loop .inv) (rw (length-map v byteWord) (t .loop-test .taken)) (c .byte-word .ensures ∙ sym (getD-map-in byteWord v _ (t .loop-test .taken)))
+loop-again c = map-turn byteWord (c .before .before .before .before .before .before .args .values .now) _ _ _ _ (c .before .before .before .loop .inv) (c .before .before .loop-test .taken) (c .byte-word .ensures)
 
 same-length : tie.Need-same-length Inv-loop μ-loop
 same-length c = c .before .loop .inv .same
 
 returns : tie.Need-returns Inv-loop μ-loop
-returns c = fill-end _ _ _ _ (c .before .loop .inv) (rw (length-map (c .before .before .before .before .args .values .now) byteWord) (c .loop-test .left))
+returns c = map-end byteWord (c .before .before .before .before .args .values .now) _ _ _ (c .before .loop .inv) (c .loop-test .left)
 
 pub put-bytes-spec : {M : Type 1} → statement M
 put-bytes-spec =

@@ -3,7 +3,7 @@ use mathlib.Core.Path.{sym}
 use Prim.Native.Nat.{ℕ, _-_, _<_}
 use native.Mathlib.Omega.{arith}
 use lib.ListN.{length, replicate, length-replicate, getD-replicate}
-use Rattle.writer.proofs.FillLaws.{Filling, fill-start, fill-turn, fill-end}
+use Rattle.lists.proofs.Loops.{Filling, fill-start, fill-turn, fill-end}
 use borrow.Author.Needs.{needs}
 use Rattle.writer.proofs.fill.put_filler.Statement.{statement}
 use Rattle.writer.proofs.fill.put_filler.Tie as tie

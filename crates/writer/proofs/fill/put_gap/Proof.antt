@@ -4,8 +4,9 @@ use Prim.Native.Nat.{_-_, _<_}
 use native.Mathlib.Omega.{arith}
 use lib.ListN.{length}
 use Rattle.line.specs.Layout.{gapWords}
-use Rattle.line.proofs.Lines.{gap-length}
-use Rattle.writer.proofs.FillLaws.{Filling, fill-start, fill-turn, fill-end, gap-at, gap-odd}
+use Rattle.line.proofs.GapLaws.{gap-length, gap-at}
+use Rattle.lists.proofs.Loops.{Filling, fill-start, fill-turn, fill-end}
+use Rattle.writer.proofs.FillLaws.{gap-odd}
 use borrow.Author.Needs.{needs}
 use Rattle.writer.proofs.fill.put_gap.Statement.{statement}
 use Rattle.writer.proofs.fill.put_gap.Tie as tie

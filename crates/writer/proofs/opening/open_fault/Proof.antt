@@ -1,11 +1,13 @@
 -- `writer::opening::open_fault` meets its contract. Assumes nothing.
-use mathlib.Core.Path.{refl, ap}
-use Prim.Native.Nat.{ℕ}
+use mathlib.Core.Path.{ap}
 use mathlib.Core.Bool.{_&&_, not}
-use lib.Dec.{eqb, leb}
+use lib.Dec.{leb}
+use Rattle.lists.proofs.Refusals.{LowestOf, low-none, low-step, low-append}
 use Rattle.line.specs.declared.systems.System.{System}
-use Rattle.writer.specs.Opening.{openFault}
-use Rattle.writer.proofs.StateLaws.{no-refusal, next-refusal}
+use Rattle.line.specs.Systems.{systemOf}
+use Rattle.line.specs.Settings.{settingsFaults, settingsFault}
+use Rattle.line.proofs.CheckLaws.{settings-rising}
+use Rattle.writer.specs.Opening.{openFaults, openFault}
 use borrow.Author.Needs.{needs}
 use Rattle.writer.proofs.opening.open_fault.Statement.{statement}
 use Rattle.writer.proofs.opening.open_fault.Tie as tie
@@ -22,35 +24,37 @@ is-blocked-requires c κs = search needs
 or-else-requires : tie.Need-or-else-requires
 or-else-requires c κs = search needs
 
+or-next-requires : tie.Need-or-next-requires
+or-next-requires c κs = search needs
+
 or-else-requires-2 : tie.Need-or-else-requires-2
 or-else-requires-2 c κs = search needs
-
-or-else-requires-3 : tie.Need-or-else-requires-3
-or-else-requires-3 c κs = search needs
 
 is-impossible-requires : tie.Need-is-impossible-requires
 is-impossible-requires c κs = search needs
 
-or-else-requires-4 : tie.Need-or-else-requires-4
-or-else-requires-4 c κs = search needs
+or-else-requires-3 : tie.Need-or-else-requires-3
+or-else-requires-3 c κs = search needs
 
 is-fit-requires : tie.Need-is-fit-requires
 is-fit-requires c κs = search needs
 
-or-else-requires-5 : tie.Need-or-else-requires-5
-or-else-requires-5 c κs = search needs
+or-else-requires-4 : tie.Need-or-else-requires-4
+or-else-requires-4 c κs = search needs
 
 returns : tie.Need-returns
-unfolding openFault
+unfolding openFault settingsFault
 returns c =
-    let n = c .before .before .before .before .before .before .before .before .before .before .before .args .n in
-    let number = ap (λ (s : System). not (leb 1 n && leb n (s .lines))) (c .before .before .before .before .before .before .before .before .before .before .system-of .ensures) in
-    let settings = c .before .before .before .before .before .before .before .before .before .settings-fault in
-    next-refusal 1 (c .or-else5 .ensures) (ap not (c .before .is-fit .ensures)) refl
-    (next-refusal 2 (c .before .before .or-else4 .ensures) (c .before .before .before .is-impossible .ensures) refl
-    (next-refusal 9 (c .before .before .before .before .or-else3 .ensures) number refl
-    (next-refusal (settings .result) (c .before .before .before .before .before .before .or-else2 .ensures) (ap (λ (k : ℕ). not (eqb k 0)) (settings .ensures)) (settings .ensures)
-    (next-refusal 20 (c .before .before .before .before .before .before .before .or-else .ensures) (c .before .before .before .before .before .before .before .before .is-blocked .ensures) refl no-refusal)))) .is
+    let g = c .before .before .before .before .before .before .before .before .before .before .before .args in
+    let number = ap (λ (s : System). not (leb 1 (g .n) && leb (g .n) (s .lines))) (c .before .before .before .before .before .before .before .before .before .before .system-of .ensures) in
+    let t = settingsFaults (systemOf (g .w .system)) (g .t) in
+    let l : LowestOf (openFaults (g .w) (g .n) (g .t) (g .long)) (c .or-else4 .result) =
+    low-step 1 (c .or-else4 .ensures) (ap not (c .before .is-fit .ensures))
+    (low-step 2 (c .before .before .or-else3 .ensures) (c .before .before .before .is-impossible .ensures)
+    (low-step 9 (c .before .before .before .before .or-else2 .ensures) number
+    (low-append t _ (settings-rising _ _) (c .before .before .before .before .before .before .or-next .ensures) (c .before .before .before .before .before .before .before .before .before .settings-fault .ensures)
+    (low-step 20 (c .before .before .before .before .before .before .before .or-else .ensures) (c .before .before .before .before .before .before .before .before .is-blocked .ensures) low-none)))) in
+    l .is
 
 pub open-fault-spec : {M : Type 1} → statement M
 open-fault-spec =
@@ -60,10 +64,10 @@ open-fault-spec =
     settings-fault-requires
     is-blocked-requires
     or-else-requires
+    or-next-requires
     or-else-requires-2
-    or-else-requires-3
     is-impossible-requires
-    or-else-requires-4
+    or-else-requires-3
     is-fit-requires
-    or-else-requires-5
+    or-else-requires-4
     returns)
