@@ -68,13 +68,12 @@ fn collect_run(mode: u8, kind: u8, n: usize, m: usize, words: &[u16], room: &mut
     k
 }
 
-// A phase that takes no run.
-fn none_taken(phase: Phase) -> Ran
-    ensures { λ r. ⌜ (r .phase ≡ phase) × (r .taken ≡ 0) ⌝ }
+fn took(phase: Phase, taken: usize) -> Ran
+    ensures { λ r. ⌜ (r .phase ≡ phase) × (r .taken ≡ taken) ⌝ }
 {
     Ran {
         phase: phase,
-        taken: 0,
+        taken: taken,
     }
 }
 
@@ -85,10 +84,7 @@ pub(crate) fn take_run(mode: u8, phase: Phase, words: &[u16], room: &mut [u16]) 
         × (now (room .exit) ≡ ranRoom mode phase (now (words .entry)) (r .taken) (now (room .entry))) ⌝ }
 {
     match phase {
-        Phase::Idle => Ran {
-            phase: phase,
-            taken: run_of(words),
-        },
+        Phase::Idle => took(phase, run_of(words)),
         Phase::Data {
             kind,
             announced,
@@ -100,24 +96,21 @@ pub(crate) fn take_run(mode: u8, phase: Phase, words: &[u16], room: &mut [u16]) 
                 announced: announced,
                 collected: collected + k,
             };
-            Ran {
-                phase: next,
-                taken: k,
-            }
+            took(next, k)
         }
-        Phase::Kind => none_taken(phase),
-        Phase::First { kind: _ } => none_taken(phase),
-        Phase::Second { kind: _, b0: _ } => none_taken(phase),
+        Phase::Kind => took(phase, 0),
+        Phase::First { kind: _ } => took(phase, 0),
+        Phase::Second { kind: _, b0: _ } => took(phase, 0),
         Phase::Third {
             kind: _,
             b0: _,
             b1: _,
-        } => none_taken(phase),
+        } => took(phase, 0),
         Phase::Fourth {
             kind: _,
             b0: _,
             b1: _,
             b2: _,
-        } => none_taken(phase),
+        } => took(phase, 0),
     }
 }

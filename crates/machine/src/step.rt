@@ -119,7 +119,8 @@ fn end_step(kind: u8, n: usize, m: usize) -> Step
     lose(4)
 }
 
-// A data word: past a met count, past the room with no count, or one whose value goes into the room, if its place is there.
+// A data word: past a met count, past the room with no count, or one whose value goes into the room, if its place is there. Asked at the
+// write itself, that last test makes reading up to ten times slower (docs/PERFORMANCE.md).
 fn value_step(room: usize, kind: u8, n: usize, m: usize) -> Step
     ensures { λ r. ⌜ r ≡ valueStep room kind n m ⌝ }
 {
