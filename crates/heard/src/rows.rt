@@ -43,5 +43,5 @@ pub(crate) fn put_words(s: &[u16]) {
 
 // The CRC register after words, from all ones.
 pub(crate) fn put_register(s: &[u16]) {
-    put(crc::crc_of(262143, s) as u64);
+    put(crc::crc_of(crc::CRC_START, s) as u64);
 }

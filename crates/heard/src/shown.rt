@@ -18,11 +18,10 @@ pub(crate) fn words(part: &[u16]) {
 
 // `Sum INDEX COUNT`, row `crc REGISTER LOW HIGH SUM`: of words of the line the CRC register, its two words, and the checksum.
 pub(crate) fn sums(part: &[u16]) {
-    let c = crc::crc_of(262143, part);
+    let c = crc::crc_of(crc::CRC_START, part);
     rows::say(b"crc");
     rows::put(c as u64);
-    rows::put(crc::crc_low(c) as u64);
-    rows::put(crc::crc_high(c) as u64);
+    rows::put_words(&crc::crc_words(c));
     rows::put(checksum::checksum_of(part) as u64);
     rows::say(b"\n");
 }

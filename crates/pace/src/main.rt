@@ -53,7 +53,7 @@ fn write_all(a: Asked, batch: &mut [u16]) {
 // A job done, and its row.
 fn run(a: Asked, batch: &mut [u16; 13728], room: &mut [u16; 16384]) {
     write_all(a, batch);
-    let register = crc::crc_of(262143, batch);
+    let register = crc::crc_of(crc::CRC_START, batch);
     if a.what == b'w' {
         put_row(register, 0);
         return;
