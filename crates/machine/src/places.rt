@@ -79,12 +79,18 @@ fn walk_all(mode: u8, phase: Phase, size: usize, words: &[u16], room: &mut [u16]
     }
 }
 
-// The same walk. The place in front is asked before the loop, because most calls end with it.
-fn walk_places(mode: u8, phase: Phase, size: usize, words: &[u16], room: &mut [u16]) -> Walked
-    requires { ⌜ (1 ≤ size) × (size - 1 ≤ length (now room)) ⌝ }
-    ensures { λ r. ⌜ leaves r (now (room .exit))
-        ≡ walkPlaces mode phase (placesIn size (length (now (words .entry)) / size) (now (words .entry))) (now (room .entry)) ⌝ }
+// The walk over places of that size, for any phase, size, words and room. Words behind the last whole place are not looked at. The place in
+// front is asked before the loop, because most calls end with it.
+pub fn walk_fixed(mode: u8, phase: Phase, size: usize, words: &[u16], room: &mut [u16]) -> Walked
+    ensures { λ r. ⌜ leaves r (now (room .exit)) ≡ walkFixed mode phase size (now (words .entry)) (now (room .entry)) ⌝ }
 {
+    if (size == 0) | (room.len() < lists::less(size, 1)) {
+        return Walked {
+            phase: phase,
+            met: Met::Nothing,
+            taken: 0,
+        };
+    }
     if words.len() < size {
         return walk_all(mode, phase, size, words, room);
     }
@@ -98,18 +104,4 @@ fn walk_places(mode: u8, phase: Phase, size: usize, words: &[u16], room: &mut [u
         met: met,
         taken: size,
     }
-}
-
-// The walk over places of that size, for any phase, size, words and room. Words behind the last whole place are not looked at.
-pub fn walk_fixed(mode: u8, phase: Phase, size: usize, words: &[u16], room: &mut [u16]) -> Walked
-    ensures { λ r. ⌜ leaves r (now (room .exit)) ≡ walkFixed mode phase size (now (words .entry)) (now (room .entry)) ⌝ }
-{
-    if (size == 0) | (room.len() < lists::less(size, 1)) {
-        return Walked {
-            phase: phase,
-            met: Met::Nothing,
-            taken: 0,
-        };
-    }
-    walk_places(mode, phase, size, words, room)
 }

@@ -1,10 +1,12 @@
 -- `machine::places::walk_fixed` meets its contract. Assumes nothing.
 use mathlib.Core.Path.{_≡_, sym, ap, _∙_}
 use mathlib.Core.Bool.{_||_}
-use Prim.Native.Nat.{ℕ, _-_, _≤_}
+use Prim.Native.Nat.{ℕ, _-_, _/_, _≤_}
+use native.Mathlib.Omega.{arith}
 use lib.Dec.{eqb, ltb}
 use lib.ListN.{length}
-use Rattle.machine.proofs.PlaceLaws.{fixed-none, fixed-walk, fixed-fits}
+use Rattle.machine.specs.Places.{placesIn, walkPlaces, walkFixed}
+use Rattle.machine.proofs.PlaceLaws.{fixed-none, fixed-walk, fixed-fits, front-stops, front-fit}
 use borrow.Author.Needs.{needs}
 use Rattle.machine.proofs.places.walk_fixed.Statement.{statement}
 use Rattle.machine.proofs.places.walk_fixed.Tie as tie
@@ -15,8 +17,17 @@ asked : (l : tie.After-less) →
     (eqb (a .size) 0 || ltb (length (a .room .now)) (l .less .result)) ≡ (eqb (a .size) 0 || ltb (length (a .room .now)) (a .size - 1))
 asked l = let a = l .before .before .before .args in ap (λ (n : ℕ). eqb (a .size) 0 || ltb (length (a .room .now)) n) (l .less .ensures)
 
-fitting : (e : tie.Else1) → let a = e .before .before .before .before .args in (1 ≤ a .size) × (a .size - 1 ≤ length (a .room .now))
-fitting e = let a = e .before .before .before .before .args in fixed-fits (a .size) (length (a .room .now)) (sym (asked (e .before)) ∙ e .if1 .left)
+-- past it, a place has a word, and the room is as long as its values; the walk is over whole places
+fitting : (o : tie.Else1) → let a = o .before .before .before .before .args in (1 ≤ a .size) × (a .size - 1 ≤ length (a .room .now))
+fitting o = let a = o .before .before .before .before .args in fixed-fits (a .size) (length (a .room .now)) (sym (asked (o .before)) ∙ o .if1 .left)
+
+whole : (o : tie.Else1) →
+    let a = o .before .before .before .before .args in
+    walkPlaces (a .mode) (a .phase) (placesIn (a .size) (length (a .words .now) / a .size) (a .words .now)) (a .room .now)
+    ≡ walkFixed (a .mode) (a .phase) (a .size) (a .words .now) (a .room .now)
+whole o =
+    let a = o .before .before .before .before .args in
+    sym (fixed-walk (a .mode) (a .phase) (a .size) (a .words .now) (a .room .now) (fitting o .0) (fitting o .1))
 
 less-requires : tie.Need-less-requires
 less-requires c κs = search needs
@@ -24,18 +35,86 @@ less-requires c κs = search needs
 returns : tie.Need-returns
 returns c = let a = c .before .before .before .before .args in fixed-none (a .mode) (a .phase) (a .size) (a .words .now) (a .room .now) (sym (asked (c .before)) ∙ c .if1 .taken)
 
-walk-places-requires : tie.Need-walk-places-requires
-walk-places-requires c κs = fitting (c .before)
+walk-all-requires : tie.Need-walk-all-requires
+walk-all-requires c κs = fitting (c .before .before)
 
 same-length : tie.Need-same-length
 same-length c = search needs
 
 returns-2 : tie.Need-returns-2
-returns-2 c =
-    let e = c .before .before .before .before in
-    let a = e .before .before .before .before .args in
-    let fit = fitting e in
-    c .before .before .walk-places .ensures ∙ sym (fixed-walk (a .mode) (a .phase) (a .size) (a .words .now) (a .room .now) (fit .0) (fit .1))
+returns-2 c = c .before .before .walk-all .ensures ∙ whole (c .before .before .before .before .before)
+
+shared-slice-read-met-at : tie.Need-shared-slice-read-met-at
+shared-slice-read-met-at c = let e = c .before in omega (arith, e .if2 .left, fitting (e .before) .0)
+
+sub-met-at : tie.Need-sub-met-at
+sub-met-at c = let h = fitting (c .before .before) .0 in search needs
+
+met-at-requires : tie.Need-met-at-requires
+met-at-requires c κs = search needs
+
+is-nothing-requires : tie.Need-is-nothing-requires
+is-nothing-requires c κs = search needs
+
+walk-all-requires-2 : tie.Need-walk-all-requires-2
+walk-all-requires-2 c κs = fitting (c .before .before .before .before .before .before)
+
+same-length-2 : tie.Need-same-length-2
+same-length-2 c = search needs
+
+returns-3 : tie.Need-returns-3
+returns-3 c = c .before .before .walk-all2 .ensures ∙ whole (c .before .before .before .before .before .before .before .before .before)
+
+sub-put-place : tie.Need-sub-put-place
+sub-put-place c = let h = fitting (c .before .before .before .before .before) .0 in search needs
+
+part-put-place-start : tie.Need-part-put-place-start
+part-put-place-start c = let h = fitting (c .before .before .before .before .before) .0 in search needs
+
+part-put-place-end : tie.Need-part-put-place-end
+part-put-place-end c = search needs
+
+put-place-requires : tie.Need-put-place-requires
+put-place-requires c κs =
+    let o = c .before .before .before .before .before .before .before in
+    let a = o .before .before .before .before .args in
+    front-fit (a .size) _ (a .words .now) (fitting o .1)
+
+same-length-3 : tie.Need-same-length-3
+same-length-3 c = search needs
+
+returns-4 : tie.Need-returns-4
+returns-4 c =
+    let p = c .before .before in
+    let f = p .before .before .before in
+    let n = f .before in
+    let m = n .before in
+    let e = m .before .before in
+    let o = e .before in
+    let a = o .before .before .before .before .args in
+    front-stops (a .mode) (a .phase) (a .size) (fitting o .0) (a .words .now) (a .room .now) _ (m .met-at .result) (e .if2 .left) (m .met-at .ensures)
+    (sym (n .is-nothing .ensures) ∙ f .if3 .left) (p .put-place .ensures)
+    ∙ whole o
 
 pub walk-fixed-spec : {M : Type 1} → statement M
-walk-fixed-spec = tie.close (tie.spec less-requires returns walk-places-requires same-length returns-2)
+walk-fixed-spec =
+    tie.close
+    (tie.spec
+    less-requires
+    returns
+    walk-all-requires
+    same-length
+    returns-2
+    shared-slice-read-met-at
+    sub-met-at
+    met-at-requires
+    is-nothing-requires
+    walk-all-requires-2
+    same-length-2
+    returns-3
+    sub-put-place
+    part-put-place-start
+    part-put-place-end
+    put-place-requires
+    same-length-3
+    returns-4)
