@@ -2,12 +2,12 @@
 -- if 01's checks find no fault. A fresh reader lent a fresh writer's lines gives back the headers and the finished blocks. An accepted header
 -- written again gives the same 53 words.
 -- Assumes nothing.
-use Prim.Native.Nat.{ℕ, _≤_}
+use Prim.Native.Nat.{ℕ, _-_, _≤_}
 use mathlib.Core.Bool.{Bool, false}
 use mathlib.Core.List.{List, [], _∷_, _++_, map}
 use mathlib.Core.Path.{_≡_}
 use lib.Dec.{eqb}
-use lib.ListN.{length}
+use lib.ListN.{length, take, drop}
 use Rattle.lists.specs.Lists.{part}
 use Rattle.line.specs.declared.settings.Settings.{Settings}
 use Rattle.line.specs.Systems.{systemOf}
@@ -18,13 +18,16 @@ use Rattle.line.specs.Check.{numberOf, settingsOf, lineFault}
 use Rattle.course.specs.declared.Last.{Last}
 use Rattle.course.specs.declared.Last.the-variants.{Unknown, Number}
 use Rattle.course.specs.declared.Place.the-variants.{Shut}
+use Rattle.course.specs.Course.{placeOf}
 use Rattle.writer.specs.declared.state.Writer.{Writer}
+use Rattle.writer.specs.State.{laidOf, endIn}
 use Rattle.writer.specs.Block.{wordsIn}
-use Rattle.writer.specs.Course.{Written, areaFrom}
+use Rattle.writer.specs.Adding.{addFault}
+use Rattle.writer.specs.Course.{Written, areaFrom, pieceOf}
 use Rattle.reader.specs.declared.state.Reader.{Reader}
 use Rattle.reader.specs.State.{capacity, fresh}
 use Rattle.reader.specs.Jump.{jumpFrom}
-use Rattle.reader.specs.Reading.{readFault, reading}
+use Rattle.reader.specs.Reading.{call, refused, begun, readFault, reading}
 use Rattle.reader.specs.Lending.{isBegun}
 use Rattle.demands.specs.All.{All}
 use Rattle.demands.specs.Sending.{Call, Piece, Complete, Sent, sentFresh, joinedPieces}
@@ -61,9 +64,18 @@ pub record Demand2 : Type 0 where
   pub any-line : (w : Writer) (f v : Bool) (n : ℕ) (t : Settings) (lent : List ℕ) (w′ : Writer) (line : List ℕ) (ps : List (List ℕ)) → Held t
       → Written w f v n t lent w′ line ps → line ≡ lineWords (systemOf (w .system)) f v n t (areaFrom (systemOf (w .system) .payload) (t .flag) ps)
   pub blocks : (system mode : ℕ) (cs : List Call) → All (HasBlocks mode) (sentFresh system mode cs)
+  -- an accepted addition, from any state: it lays the next words of the block, as many as fit in the open line
+  pub laid : (w : Writer) (line : List ℕ) (kind : ℕ) (vs : List ℕ) → addFault w (length line) kind vs ≡ 0
+      → pieceOf w line kind vs ≡ take (endIn w - placeOf (w .place)) (drop (laidOf (w .rest)) (wordsIn (w .settings .block) (w .mode) kind vs))
   -- with no line begun, and neither 1 nor 2: begun exactly if none of the conditions 3 to 16 holds
   pub accepted : (st : Reader) (line room : List ℕ) → readFault st (length line) (length room) ≡ 0 → st .place ≡ Shut
       → isBegun (reading st line room .told .event) ≡ eqb (lineFault (st .system) (st .mode) line) 0
+  -- and then the call's whole answer: begun with the number and the settings that stand in the line, which written again are its 53 words
+  pub told : (st : Reader) (line room : List ℕ) → readFault st (length line) (length room) ≡ 0 → st .place ≡ Shut → lineFault (st .system) (st .mode) line ≡ 0
+      → (reading st line room ≡ call (begun st (numberOf line) (settingsOf line)) room) × (part 4 53 line ≡ headerWords (numberOf line) (settingsOf line))
+  -- else refused with the number of the fault; and what that leaves
+  pub not-told : (st : Reader) (line room : List ℕ) → readFault st (length line) (length room) ≡ 0 → st .place ≡ Shut
+      → (n : ℕ) → lineFault (st .system) (st .mode) line ≡ n → (n ≡ 0 → ⊥) → reading st line room ≡ call (refused st n) room
   -- any system and mode, any calls, a room of 16,384 words with any content
   pub heard : (system mode : ℕ) (cs : List Call) (room : List ℕ) → length room ≡ capacity → (hs : List Heard)
       → Reads (fresh system mode) room (map (λ (s : Sent). s .words) (sentFresh system mode cs)) hs
