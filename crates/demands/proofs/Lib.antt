@@ -33,3 +33,5 @@ pub mod FrameNeeded
 pub mod Demand3Holds
 pub mod PCases
 pub mod DemandSamples
+pub mod NumberSamples
+pub mod DemandCited
