@@ -43,6 +43,7 @@ use Rattle.demands.proofs.DeskLaws.{along}
 use Rattle.demands.proofs.Ahead.{blocksHeard, Ahead, RoomFor, room-for, Agrees, Noticed, Tells, nothing-more, one-kept, one-removed, one-replaced}
 use Rattle.demands.proofs.StartLine.{matches-idle}
 use Rattle.demands.proofs.Follow.{follow}
+use Rattle.demands.proofs.Placed.{placed-fresh}
 
 -- ---- a fresh writer and a fresh reader
 pub start-ahead : (system mode cap : ℕ) (keeps : ℕ → Bool) (told : Bool) (room : List ℕ) → length room ≡ cap
@@ -182,6 +183,7 @@ demand-2 = record {
   lines = λ system mode cs. any-lines (fresh-writer system mode) [] (fresh-possible system mode) refl tt cs;
   any-line = λ w f v n t lent w′ line ps held c. written w f v n t lent w′ line ps held c .is;
   blocks = λ system mode cs. any-blocks (fresh-writer system mode) [] (fresh-possible system mode) refl tt cs;
+  placed = placed-fresh;
   laid = λ w line kind vs clear. piece-laid w line kind vs clear ∙ take-min (endIn w - placeOf (w .place)) (todo w kind vs);
   accepted = accepted-exactly;
   told = λ st line room fit shut clean. (accepts st line room fit shut clean, written-again (st .system) (st .mode) line clean);

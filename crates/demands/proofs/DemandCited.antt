@@ -15,7 +15,7 @@ use Rattle.line.specs.declared.settings.Settings.{Settings}
 use Rattle.line.specs.Systems.{systemOf}
 use Rattle.line.specs.Settings.{Held}
 use Rattle.line.specs.Header.{headerWords}
-use Rattle.line.specs.Layout.{areaLength, lineWords}
+use Rattle.line.specs.Layout.{areaLength, lineWords, areaOf}
 use Rattle.line.specs.Check.{numberOf, settingsOf, lineFault}
 use Rattle.course.specs.declared.Last.{Last}
 use Rattle.course.specs.declared.Last.the-variants.{Unknown, Number}
@@ -39,10 +39,11 @@ use Rattle.reader.specs.Jump.{jumpFrom}
 use Rattle.reader.specs.Reading.{Call as Answered, goesOn, begun, readFault, reading}
 use Rattle.reader.specs.Lending.{isBegun}
 use Rattle.demands.specs.All.{All}
-use Rattle.demands.specs.Sending.{Call, Piece, Complete, Sent, Desk, sentFresh, blocksOf, joinedPieces}
+use Rattle.demands.specs.Sending.{Call, Piece, Complete, Sent, Desk, start, sentFresh, blocksOf, joinedPieces}
+use Rattle.demands.specs.Lent.{Unchanged, lentFresh}
 use Rattle.demands.specs.Hearing.{Heard, is-refused, is-begun, is-block, is-end, Lends, Reads, Readable, handedOut}
 use Rattle.demands.specs.Damage.{Fate, remain, RefusedIfReplaced, longestRun, keptAt, survivors}
-use Rattle.demands.specs.Demand2.{IsLine, HasBlocks, givenBack}
+use Rattle.demands.specs.Demand2.{IsLine, HasBlocks, StandsOn, IsPlaced, givenBack}
 use Rattle.demands.specs.Demand3.{Consecutive, Transmission}
 use Rattle.demands.proofs.Demand2Holds.{demand-2}
 use Rattle.demands.proofs.Demand3Holds.{demand-3}
@@ -73,6 +74,27 @@ blocks-1-9 cs r s ss a b bs p q e eb ep =
     let is = subst (λ (l : List Complete). All (λ (c : Complete). (joinedPieces (c .pieces) ≡ wordsIn (s .settings .block) 9 (c .block .kind) (c .block .values)) × All (λ (x : Piece). 1 ≤ length (x .words)) (c .pieces)) l) eb h .1 .0 in
     let some = subst (λ (l : List Piece). All (λ (x : Piece). 1 ≤ length (x .words)) l) ep (is .1) in
     (sym (ap joinedPieces ep) ∙ is .0, (some .0, some .1 .0))
+
+-- `placed`: a piece of number 1, of a block that is finished on a later line, stands in the second line of a 625-line system
+pub record In1440 (ws area : List ℕ) : Type 0 where
+  pub place : ℕ
+  pub within : place + length ws ≤ 1440
+  pub there : take (length ws) (drop place area) ≡ ws
+
+pub placed-1-9 : (cs : List Call) (r s : Sent) (ss : List Sent) (a b : Complete) (bs : List Complete) (p q : Piece) → sentFresh 1 9 cs ≡ r ∷ s ∷ ss
+    → blocksOf (r ∷ s ∷ ss) ≡ a ∷ b ∷ bs → b .pieces ≡ p ∷ q ∷ [] → q .line ≡ 1 → s .settings .flag ≡ 0
+    → In1440 (q .words) (part (1728 - 1440) 1440 (s .words))
+unfolding areaLength areaOf pick
+placed-1-9 cs r s ss a b bs p q e eb ep is flag =
+    let all = subst (λ (l : List Sent). All (IsPlaced 1 l) (blocksOf l)) e (demand-2 .placed 1 9 cs) in
+    let two = subst (All (IsPlaced 1 (r ∷ s ∷ ss))) eb all .1 .0 in
+    let on = subst (All (λ (x : Piece). StandsOn 1 (x .words) (r ∷ s ∷ ss) (x .line))) ep two .1 .0 in
+    let x = subst (StandsOn 1 (q .words) (r ∷ s ∷ ss)) is on in
+    record {
+      place = x .place;
+      within = subst (λ (g : ℕ). x .place + length (q .words) ≤ areaLength 1440 g) flag (x .within);
+      there = subst (λ (g : ℕ). take (length (q .words)) (drop (x .place) (areaOf (systemOf 1) g (s .words))) ≡ q .words) flag (x .there);
+    }
 
 -- `laid`: of a block of which 5 words were laid, from the sixth on
 pub laid-sixth : (w : Writer) (line : List ℕ) (kind n : ℕ) (vs : List ℕ) → addFault w (length line) kind vs ≡ 0 → w .rest ≡ Part kind n 5 → w .place ≡ At 3
@@ -121,7 +143,7 @@ not-told-16 st line room fit shut busy bad =
     )
 
 -- `heard`: of two lines of a 625-line system, in both modes
-abbrev Told2 : ℕ → ℕ → Type 0
+abbrev pub Told2 : ℕ → ℕ → Type 0
 Told2 system mode =
     (cs : List Call) (r s : Sent) → sentFresh system mode cs ≡ r ∷ s ∷ [] → (room : List ℕ) → length room ≡ 16384 → (hs : List Heard)
     → Reads (fresh system mode) room (map (λ (x : Sent). x .words) (sentFresh system mode cs)) hs
@@ -153,7 +175,7 @@ rewritten-2-8 = demand-2 .rewritten 2 8
 
 -- ---- demand 3
 -- `handed`: of a 625-line system, in both modes, from no more than the four conditions
-abbrev Handed625 : ℕ → ℕ → Type 0
+abbrev pub Handed625 : ℕ → ℕ → Type 0
 Handed625 system mode =
     (cs : List Call) (fs : List Fate) → Consecutive 625 (sentFresh system mode cs) → length fs ≡ length (sentFresh system mode cs) → longestRun fs < 625
     → All (RefusedIfReplaced system mode) fs → (room : List ℕ) → length room ≡ 16384 → (hs : List Heard)
@@ -177,6 +199,13 @@ lent-new d vs e = demand-3 .lent d vs (inl e)
 
 pub lent-again : (d : Desk) (kind n : ℕ) (vs : List ℕ) → d .writer .rest ≡ Part kind n 20 → d .values ≡ vs → take 14 (d .values) ++ drop 14 vs ≡ vs
 lent-again d kind n vs r e = sym (ap (λ (x : Rest). asLaid (laidOf x) (d .values) vs) r) ∙ demand-3 .lent d vs (inr e)
+
+-- `as-demanded`: of system 3 in 9-bit mode, from the demand's conditions and no more
+pub as-demanded-3-9 : (t : Settings) (cs : List Call) (fs : List Fate) → t .block ≡ 0xC1 → All (λ (s : Sent). s .settings ≡ t) (sentFresh 3 9 cs)
+    → Unchanged (start 3 9) cs → Transmission 3 9 625 cs fs → (room : List ℕ) → length room ≡ 16384 → (hs : List Heard)
+    → Reads (fresh 3 9) room (remain fs (sentFresh 3 9 cs)) hs → handedOut hs ≡ survivors (keptAt fs) (lentFresh 3 9 cs)
+as-demanded-3-9 t cs fs variable one-set unchanged x =
+    demand-3 .as-demanded 3 9 t cs fs (record { variable = variable; one-set = one-set; unchanged = unchanged; transmission = x })
 
 -- `readable`: any lines
 pub any-readable : (room : List ℕ) (lines : List (List ℕ)) → Readable (fresh 3 9) room lines

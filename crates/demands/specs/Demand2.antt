@@ -2,7 +2,7 @@
 -- if 01's checks find no fault. A fresh reader lent a fresh writer's lines gives back the headers and the finished blocks. An accepted header
 -- written again gives the same 53 words.
 -- Assumes nothing.
-use Prim.Native.Nat.{ℕ, _-_, _≤_}
+use Prim.Native.Nat.{ℕ, zero, suc, _+_, _-_, _≤_}
 use mathlib.Core.Bool.{Bool, false}
 use mathlib.Core.List.{List, [], _∷_, _++_, map}
 use mathlib.Core.Path.{_≡_}
@@ -13,7 +13,7 @@ use Rattle.line.specs.declared.settings.Settings.{Settings}
 use Rattle.line.specs.Systems.{systemOf}
 use Rattle.line.specs.Settings.{Held}
 use Rattle.line.specs.Header.{headerWords}
-use Rattle.line.specs.Layout.{lineWords}
+use Rattle.line.specs.Layout.{areaLength, lineWords, areaOf}
 use Rattle.line.specs.Check.{numberOf, settingsOf, lineFault}
 use Rattle.course.specs.declared.Last.{Last}
 use Rattle.course.specs.declared.Last.the-variants.{Unknown, Number}
@@ -30,7 +30,7 @@ use Rattle.reader.specs.Jump.{jumpFrom}
 use Rattle.reader.specs.Reading.{call, refused, begun, readFault, reading}
 use Rattle.reader.specs.Lending.{isBegun}
 use Rattle.demands.specs.All.{All}
-use Rattle.demands.specs.Sending.{Call, Piece, Complete, Sent, sentFresh, joinedPieces}
+use Rattle.demands.specs.Sending.{Call, Piece, Complete, Sent, sentFresh, blocksOf, joinedPieces}
 use Rattle.demands.specs.Hearing.{Heard, is-begun, is-block, is-end, Reads, Readable}
 
 -- The line is 01's: EAV, header, gap, SAV, then the area, which is what was laid and filler behind it, and the CRC words.
@@ -50,6 +50,22 @@ IsBlock block mode b = (joinedPieces (b .pieces) ≡ wordsIn block mode (b .bloc
 abbrev pub HasBlocks : ℕ → Sent → Type 0
 HasBlocks mode s = All (IsBlock (s .settings .block) mode) (s .blocks)
 
+-- the words stand in the area of the line one after another, from a place of it on
+pub record StandsIn (system : ℕ) (ws : List ℕ) (s : Sent) : Type 0 where
+  pub place : ℕ
+  pub within : place + length ws ≤ areaLength (systemOf system .payload) (s .settings .flag)
+  pub there : part place (length ws) (areaOf (systemOf system) (s .settings .flag) (s .words)) ≡ ws
+
+-- line i is among these lines, the first being 0, and the words stand in it
+abbrev pub StandsOn : ℕ → List ℕ → List Sent → ℕ → Type 0
+StandsOn system ws [] i = ⊥
+StandsOn system ws (s ∷ ss) zero = StandsIn system ws s
+StandsOn system ws (s ∷ ss) (suc i) = StandsOn system ws ss i
+
+-- each piece of a block stands in the line that it names
+abbrev pub IsPlaced : ℕ → List Sent → Complete → Type 0
+IsPlaced system ss b = All (λ (p : Piece). StandsOn system (p .words) ss (p .line)) (b .pieces)
+
 -- What is heard of lines in order: each is begun with its number, the jump from the number before it, nothing dropped, and its settings;
 -- then the blocks finished on it; then its end. No drop and no refusal.
 unfoldable pub givenBack : ℕ → Last → List Sent → List Heard
@@ -64,6 +80,8 @@ pub record Demand2 : Type 0 where
   pub any-line : (w : Writer) (f v : Bool) (n : ℕ) (t : Settings) (lent : List ℕ) (w′ : Writer) (line : List ℕ) (ps : List (List ℕ)) → Held t
       → Written w f v n t lent w′ line ps → line ≡ lineWords (systemOf (w .system)) f v n t (areaFrom (systemOf (w .system) .payload) (t .flag) ps)
   pub blocks : (system mode : ℕ) (cs : List Call) → All (HasBlocks mode) (sentFresh system mode cs)
+  -- where a block's words are: each piece of a finished block stands in the line whose number, from 0 on, is the piece's
+  pub placed : (system mode : ℕ) (cs : List Call) → let ss = sentFresh system mode cs in All (IsPlaced system ss) (blocksOf ss)
   -- an accepted addition, from any state: it lays the next words of the block, as many as fit in the open line
   pub laid : (w : Writer) (line : List ℕ) (kind : ℕ) (vs : List ℕ) → addFault w (length line) kind vs ≡ 0
       → pieceOf w line kind vs ≡ take (endIn w - placeOf (w .place)) (drop (laidOf (w .rest)) (wordsIn (w .settings .block) (w .mode) kind vs))
