@@ -44,6 +44,8 @@ use Rattle.demands.proofs.Ahead.{blocksHeard, Ahead, RoomFor, room-for,
 use Rattle.demands.proofs.StartLine.{matches-idle}
 use Rattle.demands.proofs.Follow.{follow}
 use Rattle.demands.proofs.Placed.{placed-fresh}
+use Rattle.demands.proofs.Writable.{all-written}
+use Rattle.demands.proofs.Closing.{can-be-closed}
 
 -- ---- a fresh writer and a fresh reader
 pub start-ahead : (system mode cap : ℕ) (keeps : ℕ → Bool) (told : Bool) (room : List ℕ) → length room ≡ cap
@@ -182,6 +184,8 @@ pub demand-2 : Demand2
 demand-2 = record {
   lines = λ system mode cs. any-lines (fresh-writer system mode) [] (fresh-possible system mode) refl tt cs;
   any-line = λ w f v n t lent w′ line ps held c. written w f v n t lent w′ line ps held c .is;
+  writable = λ system mode f v n t bs known moded one last held clean passes. all-written system mode f v t held known moded clean n bs one last passes;
+  closable = λ w line fit possible held at. can-be-closed w line fit possible at held;
   blocks = λ system mode cs. any-blocks (fresh-writer system mode) [] (fresh-possible system mode) refl tt cs;
   placed = placed-fresh;
   laid = λ w line kind vs clear. piece-laid w line kind vs clear ∙ take-min (endIn w - placeOf (w .place)) (todo w kind vs);

@@ -5,32 +5,42 @@ use Prim.Native.Nat.{ℕ, _+_, _-_, _≤_, _<_}
 use mathlib.Core.Bool.{Bool, true, false, _&&_, not}
 use mathlib.Core.List.{List, [], _∷_, _++_, map}
 use mathlib.Core.Logic.{inl, inr}
-use mathlib.Core.Path.{_≡_, sym, ap, ap₂, _∙_, subst}
+use mathlib.Core.Path.{_≡_, refl, sym, ap, ap₂, _∙_, subst}
 use native.Mathlib.Omega.{arith}
 use lib.Dec.{eqb}
 use lib.ListN.{length, take, drop}
 use Rattle.lists.specs.Tests.{pick}
 use Rattle.lists.specs.Lists.{part}
+use Rattle.lists.proofs.Tests.{true-false}
+use Rattle.words.specs.Modes.{isMode}
 use Rattle.line.specs.declared.settings.Settings.{Settings}
-use Rattle.line.specs.Systems.{systemOf}
-use Rattle.line.specs.Settings.{Held}
+use Rattle.line.specs.Systems.{systemOf, isSystem}
+use Rattle.line.specs.Settings.{Held, settingsFault}
+use Rattle.line.specs.Fixed.{isVariable, sizeOf}
 use Rattle.line.specs.Header.{headerWords}
 use Rattle.line.specs.Layout.{areaLength, lineWords, areaOf}
-use Rattle.line.specs.Check.{numberOf, settingsOf, lineFault}
+use Rattle.line.specs.Check.{numberOf, settingsOf, fitsLength, lineFault}
 use Rattle.course.specs.declared.Last.{Last}
 use Rattle.course.specs.declared.Last.the-variants.{Unknown, Number}
 use Rattle.course.specs.declared.Place.the-variants.{Shut, At}
-use Rattle.course.specs.Course.{placeOf}
+use Rattle.course.specs.Course.{isAt, placeOf, nextNumber, blocksEnd}
 use Rattle.machine.specs.declared.phase.Phase.{Phase}
 use Rattle.machine.specs.declared.phase.Phase.the-variants.{Idle}
 use Rattle.machine.specs.Phases.{isBusy}
 use Rattle.writer.specs.declared.state.Writer.{Writer}
 use Rattle.writer.specs.declared.state.Rest.{Rest}
 use Rattle.writer.specs.declared.state.Rest.the-variants.{Whole, Part}
+use Rattle.writer.specs.declared.state.Answer.the-variants.{Done}
 use Rattle.writer.specs.State.{laidOf, endIn}
+use Rattle.writer.specs.Answers.{Left}
 use Rattle.writer.specs.Block.{wordsIn}
+use Rattle.writer.specs.Opening.{opening}
 use Rattle.writer.specs.Adding.{addFault}
-use Rattle.writer.specs.Course.{Written, areaFrom, pieceOf, asLaid}
+use Rattle.writer.specs.Course.{Written, areaFrom, pieceOf, joined, asLaid}
+use Rattle.writer.proofs.Keeps.{open-clear, open-leaves}
+use Rattle.writer.proofs.Refusals.{can-open}
+use Rattle.writer.proofs.Stays.{open-possible}
+use Rattle.writer.proofs.Writing.{opened-line}
 use Rattle.reader.specs.declared.jump.Jump.the-variants.{Unknown as NotKnown}
 use Rattle.reader.specs.declared.state.Reader.{Reader}
 use Rattle.reader.specs.declared.state.Event.the-variants.{Refused, Begun}
@@ -39,12 +49,14 @@ use Rattle.reader.specs.Jump.{jumpFrom}
 use Rattle.reader.specs.Reading.{Call as Answered, goesOn, begun, readFault, reading}
 use Rattle.reader.specs.Lending.{isBegun}
 use Rattle.demands.specs.All.{All}
-use Rattle.demands.specs.Sending.{Call, Piece, Complete, Sent, Desk, start, sentFresh, blocksOf, joinedPieces}
+use Rattle.demands.specs.Sending.{Call, Block, Piece, Complete, Sent, Desk, start, sentFresh, blocksOf, joinedPieces}
 use Rattle.demands.specs.Lent.{Unchanged, lentFresh}
+use Rattle.demands.specs.Writable.{OpenedWith, NumbersFrom, Packed, Writes, TypeHeld, Closable}
 use Rattle.demands.specs.Hearing.{Heard, is-refused, is-begun, is-block, is-end, Lends, Reads, Readable, handedOut}
 use Rattle.demands.specs.Damage.{Fate, remain, RefusedIfReplaced, longestRun, keptAt, survivors}
 use Rattle.demands.specs.Demand2.{IsLine, HasBlocks, StandsOn, IsPlaced, givenBack}
 use Rattle.demands.specs.Demand3.{Consecutive, Transmission}
+use Rattle.demands.proofs.Unrefused.{fits-by, open-long}
 use Rattle.demands.proofs.Demand2Holds.{demand-2}
 use Rattle.demands.proofs.Demand3Holds.{demand-3}
 
@@ -64,6 +76,52 @@ pub any-line-guarded : (w : Writer) (f v : Bool) (n : ℕ) (t : Settings) (lent 
 any-line-guarded w f v n t lent w′ line ps held flag c =
     demand-2 .any-line w f v n t lent w′ line ps held c
     ∙ ap (λ (x : ℕ). lineWords (systemOf (w .system)) f v n t (areaFrom (systemOf (w .system) .payload) x ps)) flag
+
+-- `writable`: in a variable line of system 3 and 9-bit mode, from the last number on, two blocks, one of the most values that there may be
+pub writes-3-9 : (t : Settings) (vs us : List ℕ) → Held t → settingsFault 3 t ≡ 0 → t .block ≡ 0xC1 → All (λ (x : ℕ). x < 512) vs → length vs ≡ 16384
+    → All (λ (x : ℕ). x < 512) us → length us ≤ 16384 → Writes 3 9 true false 625 t (record { kind = 0; values = vs } ∷ record { kind = 255; values = us } ∷ [])
+unfolding isSystem isMode
+writes-3-9 t vs us held clean block fits long fits′ long′ =
+    let fixed : (n k : ℕ) → isVariable (t .block) ≡ false → (n + 1 ≡ sizeOf (t .block)) × (1 ≤ k) = λ n k e. absurd (true-false (sym (ap isVariable block) ∙ e)) in
+    demand-2 .writable 3 9 true false 625 t (record { kind = 0; values = vs } ∷ record { kind = 255; values = us } ∷ []) refl refl (omega arith) (omega arith) held clean
+    (record { values = fits; number = omega (arith, long); kind = omega arith; fixed = fixed (length vs) 0 }, (record { values = fits′; number = long′; kind = omega arith; fixed = fixed (length us) 255 }, tt))
+
+-- and what that says of a list of lines: the blocks and no others, in order, on lines with the settings; 1 comes after 625
+pub writes-lines : (t : Settings) (bs : List Block) (x : Writes 3 9 true false 625 t bs) (r s : Sent) (ss : List Sent) → sentFresh 3 9 (x .calls) ≡ r ∷ s ∷ ss
+    → (map (λ (b : Complete). b .block) (r .blocks ++ (s .blocks ++ blocksOf ss)) ≡ bs)
+    × ((r .settings ≡ t) × ((s .settings ≡ t) × ((r .number ≡ 625) × (s .number ≡ 1))))
+unfolding nextNumber pick
+writes-lines t bs x r s ss e =
+    let o = subst (All (OpenedWith true false t)) e (x .opened) in
+    let n = subst (NumbersFrom 625 625) e (x .numbers) in
+    (ap (λ (l : List Sent). map (λ (b : Complete). b .block) (blocksOf l)) (sym e) ∙ x .blocks, (o .0 .1 .1, (o .1 .0 .1 .1, (n .0, n .1 .0))))
+
+-- in a fixed line of system 1 and 8-bit mode, of places of 5 words
+pub writes-1-8 : (t : Settings) (vs : List ℕ) → Held t → settingsFault 1 t ≡ 0 → t .block ≡ 0x21 → All (λ (x : ℕ). x < 256) vs → length vs ≡ 4
+    → Writes 1 8 false true 1 t (record { kind = 1; values = vs } ∷ [])
+unfolding isSystem isMode sizeOf
+writes-1-8 t vs held clean block fits long =
+    demand-2 .writable 1 8 false true 1 t (record { kind = 1; values = vs } ∷ []) refl refl (omega arith) (omega arith) held clean
+    (record { values = fits; number = omega (arith, long); kind = omega arith; fixed = λ e. (ap (λ (n : ℕ). n + 1) long ∙ ap sizeOf (sym block), omega arith) }, tt)
+
+-- such a line is the only one, as long as there is a place left: a second line says that the first is full
+pub writes-one : (t : Settings) (bs : List Block) (x : Writes 1 8 false true 1 t bs) (r s : Sent) (ss : List Sent) → sentFresh 1 8 (x .calls) ≡ r ∷ s ∷ ss
+    → (length (joined (r .pieces)) ≡ blocksEnd 1440 (r .settings .block) (r .settings .flag)) × (1 ≤ length (s .pieces))
+writes-one t bs x r s ss e = let p = subst (Packed 1) e (x .packed) in (p .0, p .1 .0)
+
+-- `closable`: after any accepted opening, an unfinished block of any type or none: calls that fill the line, and its closing
+pub closable-opened : (w : Writer) (f v : Bool) (n : ℕ) (t : Settings) (lent : List ℕ) → Held t → (kind many j : ℕ) → w .rest ≡ Part kind many j → kind ≤ 255
+    → opening w f v n t lent .answer ≡ Done → Closable (opening w f v n t lent .state) (opening w f v n t lent .line)
+closable-opened w f v n t lent held kind many j r small done =
+    let clear = open-clear w f v n t lent done in
+    let e = open-leaves w f v n t lent clear in
+    let can = can-open w n t (length lent) clear in
+    let x = opening w f v n t lent in
+    let line = opened-line w f v n t lent done in
+    demand-2 .closable (x .state) (x .line)
+    (ap₂ (λ (s m : ℕ). fitsLength s m (length (x .line))) (line .of-system) (line .of-mode)
+    ∙ fits-by (w .system) (w .mode) (length (x .line)) (can .known) (can .moded) (open-long (w .system) (w .mode) f v n t [] (x .state) (x .line) held (can .known) line))
+    (open-possible w f v n t lent (can .state)) (subst TypeHeld (sym (ap (λ (y : Left). y .state .rest) e ∙ r)) small) (ap isAt (line .of-place))
 
 -- `blocks`: the second block of the second line, laid in two pieces, in a 625-line system and 9-bit mode
 pub blocks-1-9 : (cs : List Call) (r s : Sent) (ss : List Sent) (a b : Complete) (bs : List Complete) (p q : Piece) → sentFresh 1 9 cs ≡ r ∷ s ∷ ss

@@ -28,6 +28,9 @@ pub mod QuietLine
 pub mod Follow
 pub mod Notices
 pub mod Placed
+pub mod Unrefused
+pub mod Writable
+pub mod Closing
 pub mod Demand2Holds
 pub mod FrameCourse
 pub mod FrameNeeded

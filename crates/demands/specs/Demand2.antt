@@ -3,24 +3,25 @@
 -- written again gives the same 53 words.
 -- Assumes nothing.
 use Prim.Native.Nat.{ℕ, zero, suc, _+_, _-_, _≤_}
-use mathlib.Core.Bool.{Bool, false}
+use mathlib.Core.Bool.{Bool, true, false}
 use mathlib.Core.List.{List, [], _∷_, _++_, map}
 use mathlib.Core.Path.{_≡_}
 use lib.Dec.{eqb}
 use lib.ListN.{length, take, drop}
 use Rattle.lists.specs.Lists.{part}
+use Rattle.words.specs.Modes.{isMode}
 use Rattle.line.specs.declared.settings.Settings.{Settings}
-use Rattle.line.specs.Systems.{systemOf}
-use Rattle.line.specs.Settings.{Held}
+use Rattle.line.specs.Systems.{systemOf, isSystem}
+use Rattle.line.specs.Settings.{Held, settingsFault}
 use Rattle.line.specs.Header.{headerWords}
 use Rattle.line.specs.Layout.{areaLength, lineWords, areaOf}
-use Rattle.line.specs.Check.{numberOf, settingsOf, lineFault}
+use Rattle.line.specs.Check.{numberOf, settingsOf, fitsLength, lineFault}
 use Rattle.course.specs.declared.Last.{Last}
 use Rattle.course.specs.declared.Last.the-variants.{Unknown, Number}
 use Rattle.course.specs.declared.Place.the-variants.{Shut}
-use Rattle.course.specs.Course.{placeOf}
+use Rattle.course.specs.Course.{isAt, placeOf}
 use Rattle.writer.specs.declared.state.Writer.{Writer}
-use Rattle.writer.specs.State.{laidOf, endIn}
+use Rattle.writer.specs.State.{laidOf, impossible, endIn}
 use Rattle.writer.specs.Block.{wordsIn}
 use Rattle.writer.specs.Adding.{addFault}
 use Rattle.writer.specs.Course.{Written, areaFrom, pieceOf}
@@ -30,7 +31,8 @@ use Rattle.reader.specs.Jump.{jumpFrom}
 use Rattle.reader.specs.Reading.{call, refused, begun, readFault, reading}
 use Rattle.reader.specs.Lending.{isBegun}
 use Rattle.demands.specs.All.{All}
-use Rattle.demands.specs.Sending.{Call, Piece, Complete, Sent, sentFresh, blocksOf, joinedPieces}
+use Rattle.demands.specs.Sending.{Call, Block, Piece, Complete, Sent, sentFresh, blocksOf, joinedPieces}
+use Rattle.demands.specs.Writable.{Passes, Writes, TypeHeld, Closable}
 use Rattle.demands.specs.Hearing.{Heard, is-begun, is-block, is-end, Reads, Readable}
 
 -- The line is 01's: EAV, header, gap, SAV, then the area, which is what was laid and filler behind it, and the CRC words.
@@ -79,6 +81,15 @@ pub record Demand2 : Type 0 where
   -- and the same of a writer in any state, fresh or not: a line opened, filled by any calls and closed
   pub any-line : (w : Writer) (f v : Bool) (n : ℕ) (t : Settings) (lent : List ℕ) (w′ : Writer) (line : List ℕ) (ps : List (List ℕ)) → Held t
       → Written w f v n t lent w′ line ps → line ≡ lineWords (systemOf (w .system)) f v n t (areaFrom (systemOf (w .system) .payload) (t .flag) ps)
+  -- and such lines can be had: from any known system and mode, any F and V, ..
+  pub writable : (system mode : ℕ) (f v : Bool) (n : ℕ) (t : Settings) (bs : List Block) → isSystem system ≡ true → isMode mode ≡ true
+      -- .. any number 1..N, any settings that 10-14 let pass, ..
+      → 1 ≤ n → n ≤ systemOf system .lines → Held t → settingsFault system t ≡ 0
+      -- .. and any blocks that 17 and 18 let pass: calls on a fresh writer whose finished blocks are exactly these
+      → All (Passes mode t) bs → Writes system mode f v n t bs
+  -- a line that is open can be closed, from any possible state, and so after every accepted opening
+  pub closable : (w : Writer) (line : List ℕ) → fitsLength (w .system) (w .mode) (length line) ≡ true → impossible w ≡ false → TypeHeld (w .rest)
+      → isAt (w .place) ≡ true → Closable w line
   pub blocks : (system mode : ℕ) (cs : List Call) → All (HasBlocks mode) (sentFresh system mode cs)
   -- where a block's words are: each piece of a finished block stands in the line whose number, from 0 on, is the piece's
   pub placed : (system mode : ℕ) (cs : List Call) → let ss = sentFresh system mode cs in All (IsPlaced system ss) (blocksOf ss)

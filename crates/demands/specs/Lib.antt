@@ -3,5 +3,6 @@ pub mod Sending
 pub mod Hearing
 pub mod Damage
 pub mod Lent
+pub mod Writable
 pub mod Demand2
 pub mod Demand3
