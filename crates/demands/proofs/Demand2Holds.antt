@@ -1,24 +1,29 @@
 -- DEMAND 2, proved: the statement is specs/Demand2.antt.
 -- Assumes nothing.
-use Prim.Native.Nat.{ℕ, suc}
+use Prim.Native.Nat.{ℕ, suc, _-_, min}
 use mathlib.Core.Bool.{Bool, true, false}
 use mathlib.Core.List.{List, [], _∷_, _++_, map}
+use mathlib.Core.Logic.{⊎-elim}
 use mathlib.Core.Path.{_≡_, refl, sym, ap, ap₂, _∙_, subst}
 use native.Mathlib.Omega.{arith}
-use lib.ListN.{length}
-use Rattle.lists.proofs.Tests.{true-false, pick-true}
+use lib.ListN.{length, take}
+use lib.Seq.{take-all}
+use Rattle.lists.proofs.Tests.{true-false, pick-true, lt-or-le}
 use Rattle.line.specs.Systems.{systemOf}
 use Rattle.line.proofs.Lines.{written-again}
 use Rattle.course.specs.declared.Last.{Last}
 use Rattle.course.specs.declared.Last.the-variants.{Unknown, Number}
 use Rattle.course.specs.declared.Place.the-variants.{Shut}
+use Rattle.course.specs.Course.{placeOf}
 use Rattle.writer.specs.declared.state.Writer.{Writer}
-use Rattle.writer.specs.State.{impossible, fresh as fresh-writer}
+use Rattle.writer.specs.State.{impossible, endIn, fresh as fresh-writer}
+use Rattle.writer.specs.Adding.{todo}
 use Rattle.writer.proofs.Stays.{fresh-possible}
+use Rattle.writer.proofs.Pieces.{piece-laid}
 use Rattle.writer.proofs.Writing.{written}
 use Rattle.reader.specs.State.{capacity, fresh}
 use Rattle.reader.specs.Jump.{jumpFrom}
-use Rattle.reader.proofs.AtCapacity.{accepted-exactly}
+use Rattle.reader.proofs.AtCapacity.{accepts, refuses, accepted-exactly}
 use Rattle.demands.specs.All.{All}
 use Rattle.demands.specs.Sending.{Call, Piece, Complete, Sent, Desk, start, pieceNow, completeNow, sentBy, sentFresh}
 use Rattle.demands.specs.Hearing.{Heard, is-begun, is-block, is-end, Reads}
@@ -38,6 +43,9 @@ use Rattle.demands.proofs.DeskLaws.{along}
 use Rattle.demands.proofs.Ahead.{blocksHeard, Ahead, RoomFor, room-for, Agrees, Noticed, Tells, nothing-more, one-kept, one-removed, one-replaced}
 use Rattle.demands.proofs.StartLine.{matches-idle}
 use Rattle.demands.proofs.Follow.{follow}
+use Rattle.demands.proofs.Placed.{placed-fresh}
+use Rattle.demands.proofs.Writable.{all-written}
+use Rattle.demands.proofs.Closing.{can-be-closed}
 
 -- ---- a fresh writer and a fresh reader
 pub start-ahead : (system mode cap : ℕ) (keeps : ℕ → Bool) (told : Bool) (room : List ℕ) → length room ≡ cap
@@ -165,12 +173,25 @@ given-back lines before gone _ _ _ (one-kept {fs = fs} {s = s} {ss = ss} {hs = h
 given-back lines before gone _ _ _ (one-removed more) g e = absurd (true-false (sym (ap headKept e)))
 given-back lines before gone _ _ _ (one-replaced k dropped least more) g e = absurd (true-false (sym (ap headKept e)))
 
+-- ---- as many as fit
+take-min : (a : ℕ) (l : List ℕ) → take (min a (length l)) l ≡ take a l
+take-min a l =
+    ⊎-elim (λ h. ap (λ (k : ℕ). take k l) (let e : min a (length l) ≡ a = omega arith in e))
+    (λ h. take-all (min a (length l)) l (omega arith) ∙ sym (take-all a l (omega arith)))
+    (lt-or-le a (length l))
+
 pub demand-2 : Demand2
 demand-2 = record {
   lines = λ system mode cs. any-lines (fresh-writer system mode) [] (fresh-possible system mode) refl tt cs;
   any-line = λ w f v n t lent w′ line ps held c. written w f v n t lent w′ line ps held c .is;
+  writable = λ system mode f v n t bs known moded one last held clean passes. all-written system mode f v t held known moded clean n bs one last passes;
+  closable = λ w line fit possible held at. can-be-closed w line fit possible at held;
   blocks = λ system mode cs. any-blocks (fresh-writer system mode) [] (fresh-possible system mode) refl tt cs;
+  placed = placed-fresh;
+  laid = λ w line kind vs clear. piece-laid w line kind vs clear ∙ take-min (endIn w - placeOf (w .place)) (todo w kind vs);
   accepted = accepted-exactly;
+  told = λ st line room fit shut clean. (accepts st line room fit shut clean, written-again (st .system) (st .mode) line clean);
+  not-told = refuses;
   heard = λ system mode cs room long hs r.
       let ss = sentFresh system mode cs in
       given-back (systemOf system .lines) Unknown false (all-kept ss) ss hs

@@ -35,6 +35,7 @@ use Rattle.demands.proofs.PieceRun.{all-lost}
 use Rattle.demands.proofs.AddLine.{survivors-append}
 use Rattle.demands.proofs.Notices.{noticed}
 use Rattle.demands.proofs.Demand2Holds.{fresh-tells}
+use Rattle.demands.proofs.AsLent.{as-lent, lent-fresh}
 use Rattle.demands.proofs.FrameNeeded.{frame-needed}
 
 -- ---- a block finished on a line that is not kept has a piece there
@@ -128,16 +129,13 @@ module _ (system mode : ℕ) (cs : List Call) (fs : List Fate) (x : Transmission
   all-served : All IsFrom3 hs
   all-served = served-by (systemOf system .lines) (keptAt fs) Unknown false fs (sentFresh system mode cs) hs tells
 
-as-lent : (d : Desk) (vs : List ℕ) → (d .writer .rest ≡ Whole) ⊎ (d .values ≡ vs) → valuesNow d vs ≡ vs
-as-lent d vs =
-    ⊎-elim (λ e. ap (λ (r : Rest). asLaid (laidOf r) (d .values) vs) e)
-    (λ e. ap (λ (l : List ℕ). asLaid (laidOf (d .writer .rest)) l vs) e ∙ take-append-drop (laidOf (d .writer .rest) - 6) vs)
-
 pub demand-3 : Demand3
 demand-3 = record {
   handed = handed-out;
   needed = frame-needed;
   lent = as-lent;
+  as-demanded = λ system mode t cs fs x room long hs r.
+      handed-out system mode cs fs (x .transmission) room long hs r ∙ ap (survivors (keptAt fs)) (sym (lent-fresh system mode cs (x .unchanged)));
   readable = λ system mode room lines. readable (fresh system mode) room lines refl;
   ends = line-within;
   served = all-served;

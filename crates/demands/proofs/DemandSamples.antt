@@ -9,6 +9,7 @@ use lib.Dec.{lit<}
 use lib.IntN.{pos}
 use lib.ListN.{length, replicate, length-replicate}
 use Rattle.lists.specs.Tests.{pick}
+use Rattle.lists.proofs.Tests.{true-false}
 use Rattle.words.specs.Forms.{byteWord}
 use Rattle.words.specs.Modes.{isMode, values, wordOf}
 use Rattle.words.specs.Crc.{crcWords}
@@ -34,6 +35,7 @@ use Rattle.reader.specs.State.{capacity, fresh}
 use Rattle.reader.specs.Jump.{folded}
 use Rattle.demands.specs.All.{All}
 use Rattle.demands.specs.Sending.{Call, opens, adds, closes, Block, Piece, Complete, Sent, Desk, start, after, sends, sentBy, sentFresh, blocksOf}
+use Rattle.demands.specs.Lent.{Unchanged, lentBy, lentFresh}
 use Rattle.demands.specs.Hearing.{Heard, is-begun, is-block, is-end, Reads, handedOut}
 use Rattle.demands.specs.Damage.{Fate, kept, removed, replaced, remain, RefusedIfReplaced, longestRun, keptAt, survivors}
 use Rattle.demands.specs.Demand2.{givenBack}
@@ -223,3 +225,45 @@ pub five-handed-once : handedOut (demand-3 .readable 0 9 (replicate 16384 0) (re
 five-handed-once =
     let x = demand-3 .readable 0 9 (replicate 16384 0) (remain fates (sentFresh 0 9 five-lines)) in
     five-handed-by-all (replicate 16384 0) (length-replicate {A = ℕ} 16384 0) (x .heard) (x .reads)
+
+-- in the demand's own words: each block was lent unchanged until finished, and these are the blocks as lent that survive
+one-set : All (λ (s : Sent). s .settings ≡ guarded) (sentFresh 0 9 five-lines)
+unfolding sent five-lines guarded
+one-set = (refl, (refl, (refl, (refl, (refl, tt)))))
+
+unchanged : Unchanged (start 0 9) five-lines
+unfolding sent five-lines Unchanged
+unchanged = (
+  (λ c p. absurd (true-false (sym p))),
+  (
+    (λ c p. absurd (true-false (sym p))),
+    (
+      (λ c p. refl),
+      (
+        (λ c p. absurd (true-false (sym p))),
+        (
+          (λ c p. absurd (true-false (sym p))),
+          (
+            (λ c p. refl),
+            (
+              (λ c p. absurd (true-false (sym p))),
+              (
+                (λ c p. absurd (true-false (sym p))),
+                ((λ c p. refl), ((λ c p. absurd (true-false (sym p))), tt)),
+              ),
+            ),
+          ),
+        ),
+      ),
+    ),
+  ),
+)
+
+pub five-lent : survivors (keptAt fates) (lentFresh 0 9 five-lines) ≡ left
+unfolding sent five-lines fates lentBy
+five-lent = refl
+
+pub five-as-demanded : (room : List ℕ) → length room ≡ capacity → (hs : List Heard) → Reads (fresh 0 9) room (remain fates (sentFresh 0 9 five-lines)) hs → handedOut hs ≡ left
+unfolding guarded settings
+five-as-demanded room long hs r =
+    demand-3 .as-demanded 0 9 guarded five-lines fates (record { variable = refl; one-set = one-set; unchanged = unchanged; transmission = transmission }) room long hs r ∙ five-lent

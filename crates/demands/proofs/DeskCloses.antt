@@ -44,7 +44,7 @@ unfolding pick
 area-by p true h = omega arith
 area-by p false h = omega arith
 
-area-some : (system flag : ℕ) → isSystem system ≡ true → 1 ≤ areaLength (systemOf system .payload) flag
+pub area-some : (system flag : ℕ) → isSystem system ≡ true → 1 ≤ areaLength (systemOf system .payload) flag
 unfolding areaLength
 area-some system flag known = area-by (systemOf system .payload) (eqb flag 1) (payload-some system known)
 
@@ -58,7 +58,7 @@ pub varied-by : (part variable : Bool) → (part && not variable) ≡ false → 
 varied-by true variable e p = not-false variable e
 varied-by false variable e p = absurd (true-false (sym p))
 
-end-variable : (p block flag : ℕ) → isVariable block ≡ true → blocksEnd p block flag ≡ areaLength p flag
+pub end-variable : (p block flag : ℕ) → isVariable block ≡ true → blocksEnd p block flag ≡ areaLength p flag
 unfolding blocksEnd
 end-variable p block flag v = pick-true _ _ v
 

@@ -27,9 +27,16 @@ pub mod EndLine
 pub mod QuietLine
 pub mod Follow
 pub mod Notices
+pub mod Placed
+pub mod Unrefused
+pub mod Writable
+pub mod Closing
 pub mod Demand2Holds
 pub mod FrameCourse
 pub mod FrameNeeded
+pub mod AsLent
 pub mod Demand3Holds
 pub mod PCases
 pub mod DemandSamples
+pub mod NumberSamples
+pub mod DemandCited

@@ -30,7 +30,7 @@ next-wrap : (lines x : ℕ) → lines ≤ x → nextNumber lines x ≡ 1
 unfolding nextNumber
 next-wrap lines x h = pick-false (suc x) 1 (le-ltb x lines h)
 
-next-in : (lines x : ℕ) → 0 < lines → (1 ≤ nextNumber lines x) × (nextNumber lines x ≤ lines)
+pub next-in : (lines x : ℕ) → 0 < lines → (1 ≤ nextNumber lines x) × (nextNumber lines x ≤ lines)
 next-in lines x h = by (ltb x lines) refl
   where
     by : (b : Bool) → ltb x lines ≡ b → (1 ≤ nextNumber lines x) × (nextNumber lines x ≤ lines)

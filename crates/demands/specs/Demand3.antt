@@ -8,6 +8,7 @@ use mathlib.Core.Logic.{_⊎_}
 use mathlib.Core.List.{List, [], _∷_}
 use mathlib.Core.Path.{_≡_}
 use lib.ListN.{length}
+use Rattle.line.specs.declared.settings.Settings.{Settings}
 use Rattle.line.specs.Systems.{systemOf}
 use Rattle.line.specs.Layout.{areaLength}
 use Rattle.line.specs.Check.{settingsOf}
@@ -17,7 +18,8 @@ use Rattle.writer.specs.declared.state.Rest.the-variants.{Whole}
 use Rattle.reader.specs.declared.state.Reader.{Reader}
 use Rattle.reader.specs.State.{capacity, fresh}
 use Rattle.demands.specs.All.{All}
-use Rattle.demands.specs.Sending.{Call, Sent, Desk, valuesNow, sentFresh, blocksOf}
+use Rattle.demands.specs.Sending.{Call, Sent, Desk, start, valuesNow, sentFresh, blocksOf}
+use Rattle.demands.specs.Lent.{Unchanged, lentFresh}
 use Rattle.demands.specs.Hearing.{Heard, is-refused, is-begun, is-block, is-drop, is-end, Lends, Reads, Readable, handedOut}
 use Rattle.demands.specs.Damage.{Fate, remain, RefusedIfReplaced, longestRun, keptAt, survivors}
 
@@ -54,12 +56,27 @@ HandsOut system mode bound =
     → (hs : List Heard) → Reads (fresh system mode) room (remain fs (sentFresh system mode cs)) hs
     → handedOut hs ≡ survivors (keptAt fs) (blocksOf (sentFresh system mode cs))
 
+-- A transmission in the demand's own words.
+pub record Demanded (system mode : ℕ) (t : Settings) (cs : List Call) (fs : List Fate) : Type 0 where
+  -- variable-size blocks
+  pub variable : t .block ≡ 0xC1
+  -- one set of settings
+  pub one-set : All (λ (s : Sent). s .settings ≡ t) (sentFresh system mode cs)
+  -- each lent unchanged until finished
+  pub unchanged : Unchanged (start system mode) cs
+  -- lines with consecutive numbers; runs shorter than one frame removed, others replaced by words that the line check refuses
+  pub transmission : Transmission system mode (systemOf system .lines) cs fs
+
 pub record Demand3 : Type 0 where
   pub handed : (system mode : ℕ) → HandsOut system mode (systemOf system .lines)
   -- the bound is needed: with runs of one frame it is false, of system 0 in 8-bit mode
   pub needed : HandsOut 0 8 (systemOf 0 .lines + 1) → ⊥
   -- the values are those laid: of a new block those lent, and of a block lent again unchanged the same
   pub lent : (d : Desk) (vs : List ℕ) → (d .writer .rest ≡ Whole) ⊎ (d .values ≡ vs) → valuesNow d vs ≡ vs
+  -- so, in the demand's own words: of the blocks as lent those that survive, with types and values as lent
+  pub as-demanded : (system mode : ℕ) (t : Settings) (cs : List Call) (fs : List Fate) → Demanded system mode t cs fs
+      → (room : List ℕ) → length room ≡ capacity → (hs : List Heard) → Reads (fresh system mode) room (remain fs (sentFresh system mode cs)) hs
+      → handedOut hs ≡ survivors (keptAt fs) (lentFresh system mode cs)
   -- such a course of reading calls exists, each line ends within area + 2 calls, and neither 1 nor 2 is answered
   pub readable : (system mode : ℕ) (room : List ℕ) (lines : List (List ℕ)) → Readable (fresh system mode) room lines
   pub ends : (st : Reader) (line room : List ℕ) → st .place ≡ Shut → (hs : List Heard) (st′ : Reader) (room′ : List ℕ) → Lends line st room hs st′ room′
