@@ -64,19 +64,19 @@ use Rattle.demands.proofs.Demand3Holds.{demand-3}
 -- ---- demand 2
 -- `lines`: the first line of system 1 in 8-bit mode, and the second of system 3 in 9-bit mode
 pub lines-1-8 : (cs : List Call) (s : Sent) (ss : List Sent) → sentFresh 1 8 cs ≡ s ∷ ss
-    → s .words ≡ lineWords (systemOf 1) (s .f) (s .v) (s .number) (s .settings) (areaFrom 1440 (s .settings .flag) (s .pieces))
+    → s .words ≡ lineWords (systemOf 1) (s .f) (s .v) (s .number) (s .settings) [] (areaFrom 1440 (s .settings .flag) (s .pieces))
 lines-1-8 cs s ss e = subst (All (IsLine 1)) e (demand-2 .lines 1 8 cs) .0
 
 pub lines-3-9 : (cs : List Call) (r s : Sent) (ss : List Sent) → sentFresh 3 9 cs ≡ r ∷ s ∷ ss
-    → s .words ≡ lineWords (systemOf 3) (s .f) (s .v) (s .number) (s .settings) (areaFrom 1920 (s .settings .flag) (s .pieces))
+    → s .words ≡ lineWords (systemOf 3) (s .f) (s .v) (s .number) (s .settings) [] (areaFrom 1920 (s .settings .flag) (s .pieces))
 lines-3-9 cs r s ss e = subst (All (IsLine 3)) e (demand-2 .lines 3 9 cs) .1 .0
 
 -- `any-line`: with flag 01h
 pub any-line-guarded : (w : Writer) (f v : Bool) (n : ℕ) (t : Settings) (lent : List ℕ) (w′ : Writer) (line : List ℕ) (ps : List (List ℕ)) → Held t
-    → t .flag ≡ 1 → Written w f v n t lent w′ line ps → line ≡ lineWords (systemOf (w .system)) f v n t (areaFrom (systemOf (w .system) .payload) 1 ps)
+    → t .flag ≡ 1 → Written w f v n t lent w′ line ps → line ≡ lineWords (systemOf (w .system)) f v n t [] (areaFrom (systemOf (w .system) .payload) 1 ps)
 any-line-guarded w f v n t lent w′ line ps held flag c =
     demand-2 .any-line w f v n t lent w′ line ps held c
-    ∙ ap (λ (x : ℕ). lineWords (systemOf (w .system)) f v n t (areaFrom (systemOf (w .system) .payload) x ps)) flag
+    ∙ ap (λ (x : ℕ). lineWords (systemOf (w .system)) f v n t [] (areaFrom (systemOf (w .system) .payload) x ps)) flag
 
 -- `writable`: in a variable line of system 3 and 9-bit mode, from the last number on, two blocks, one of the most values that there may be
 pub writes-3-9 : (t : Settings) (vs us : List ℕ) → Held t → settingsFault 3 t ≡ 0 → t .block ≡ 0xC1 → All (λ (x : ℕ). x < 512) vs → length vs ≡ 16384

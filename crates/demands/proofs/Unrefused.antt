@@ -10,6 +10,7 @@ use lib.ListN.{length, replicate, length-append, length-replicate}
 use borrow.Author.Tests.{eqb-true, eq-eqb, ne-eqb, lt-ltb, le-ltb, le-leb, lt-leb}
 use Rattle.lists.specs.Lists.{same, each}
 use Rattle.lists.proofs.Tests.{true-false, false-or, and-true, pick-false, pick-true}
+use Rattle.lists.proofs.Refusals.{clear-lowest}
 use Rattle.lists.proofs.Lists.{eq-same}
 use Rattle.words.specs.Modes.{isMode, values}
 use Rattle.line.specs.declared.settings.Settings.{Settings}
@@ -29,8 +30,9 @@ use Rattle.writer.specs.declared.state.Rest.{Rest}
 use Rattle.writer.specs.declared.state.Writer.{Writer}
 use Rattle.writer.specs.State.{most, isPart, impossible, endIn}
 use Rattle.writer.specs.Opening.{openBlocked, openFault}
-use Rattle.writer.specs.Adding.{valued, illShaped, isFull, isOther, addFault}
-use Rattle.writer.specs.Closing.{closeFault}
+use Rattle.writer.specs.Adding.{valued, illShaped, isFull, isOther, addFaults, addFault}
+use Rattle.writer.specs.Closing.{closeFaults, closeFault}
+use Rattle.writer.proofs.Refusals.{clear-open}
 use Rattle.writer.proofs.Framing.{front, front-length, framed-front}
 use Rattle.writer.proofs.Writing.{Open}
 use Rattle.demands.specs.All.{All}
@@ -41,24 +43,20 @@ use Rattle.demands.proofs.DeskCloses.{area-some, end-variable}
 -- ---- no condition holds
 pub opens-clear : (w : Writer) (n : ℕ) (t : Settings) (long : ℕ) → fitsLength (w .system) (w .mode) long ≡ true → impossible w ≡ false → 1 ≤ n → n ≤ systemOf (w .system) .lines
     → settingsFault (w .system) t ≡ 0 → openBlocked w n t ≡ false → openFault w n t long ≡ 0
-unfolding openFault
 opens-clear w n t long fit possible one last clean free =
-    pick-false _ _ (ap not fit) ∙ pick-false _ _ possible
-    ∙ pick-false _ _ (ap not (and-true (le-leb 1 n one) (le-leb n (systemOf (w .system) .lines) last)))
-    ∙ pick-false _ _ (ap not (eq-eqb (settingsFault (w .system) t) 0 clean)) ∙ pick-false _ _ free
+    clear-open w n t long (ap not fit) possible (ap not (and-true (le-leb 1 n one) (le-leb n (systemOf (w .system) .lines) last))) clean free
 
 pub adds-clear : (w : Writer) (long kind : ℕ) (vs : List ℕ) → fitsLength (w .system) (w .mode) long ≡ true → impossible w ≡ false → valued (w .mode) vs ≡ true
     → illShaped (w .place) (w .settings .block) kind (length vs) ≡ false → isFull (endIn w) (w .place) ≡ false → isAt (w .place) ≡ true
     → isOther (w .rest) kind (length vs) ≡ false → addFault w long kind vs ≡ 0
 unfolding addFault
 adds-clear w long kind vs fit possible fits shape left at same =
-    pick-false _ _ (ap not fit) ∙ pick-false _ _ possible ∙ pick-false _ _ (ap not fits) ∙ pick-false _ _ shape ∙ pick-false _ _ left
-    ∙ pick-false _ _ (false-or (ap not at) same)
+    clear-lowest (addFaults w long kind vs) (ap not fit, (possible, (ap not fits, (shape, (left, (false-or (ap not at) same, tt))))))
 
 pub closes-clear : (w : Writer) (long : ℕ) → fitsLength (w .system) (w .mode) long ≡ true → impossible w ≡ false → isAt (w .place) ≡ true
     → (isPart (w .rest) && not (isFull (endIn w) (w .place))) ≡ false → closeFault w long ≡ 0
 unfolding closeFault
-closes-clear w long fit possible at left = pick-false _ _ (ap not fit) ∙ pick-false _ _ possible ∙ pick-false _ _ (false-or (ap not at) left)
+closes-clear w long fit possible at left = clear-lowest (closeFaults w long) (ap not fit, (possible, (false-or (ap not at) left, tt)))
 
 -- ---- 1
 pub fits-by : (system mode long : ℕ) → isSystem system ≡ true → isMode mode ≡ true → long ≡ systemOf system .length → fitsLength system mode long ≡ true
@@ -72,13 +70,13 @@ open-long system mode f v n t a w line held known o =
     let row = sound system known in
     let p = systemOf system .payload in
     let filler : List ℕ = replicate (p - length a) 0x200 in
-    ap length (o .is ∙ framed-front (systemOf system) f v n t (a ++ filler))
+    ap length (o .is ∙ framed-front (systemOf system) f v n t [] (a ++ filler))
     ∙ omega (
       arith,
-      length-append (front (systemOf system) f v n t) (a ++ filler),
+      length-append (front (systemOf system) f v n t []) (a ++ filler),
       length-append a filler,
       length-replicate {A = ℕ} (p - length a) 0x200,
-      front-length (systemOf system) f v n t held (row .room),
+      front-length (systemOf system) f v n t [] held (row .room) (omega (arith, row .room)),
       o .within,
       area-most p (t .flag),
       row .room,
