@@ -52,7 +52,7 @@ use Rattle.reader.specs.Lending.{isBegun}
 use Rattle.demands.specs.All.{All}
 use Rattle.demands.specs.Sending.{Call, Block, Piece, Complete, Sent, Desk, start, sentFresh, blocksOf, joinedPieces}
 use Rattle.demands.specs.Lent.{Unchanged, lentFresh}
-use Rattle.demands.specs.Writable.{OpenedWith, NumbersFrom, Packed, Writes, TypeHeld}
+use Rattle.demands.specs.Writable.{OpenedWith, NumbersFrom, Packed, Writes, TypeHeld, Closable}
 use Rattle.demands.specs.Hearing.{Heard, is-refused, is-begun, is-block, is-end, Lends, Reads, Readable, handedOut}
 use Rattle.demands.specs.Damage.{Fate, remain, RefusedIfReplaced, longestRun, keptAt, survivors}
 use Rattle.demands.specs.Demand2.{IsLine, HasBlocks, StandsOn, IsPlaced, givenBack}
@@ -117,6 +117,16 @@ pub record Closed (w : Writer) (f v : Bool) (n : ℕ) (t : Settings) (lent : Lis
   pub pieces : List (List ℕ)
   pub written : Written w f v n t lent w′ line pieces
 
+closed-by : (w : Writer) (f v : Bool) (n : ℕ) (t : Settings) (lent : List ℕ) → opening w f v n t lent .answer ≡ Done
+    → Closable (opening w f v n t lent .state) (opening w f v n t lent .line) → Closed w f v n t lent
+closed-by w f v n t lent done c =
+    record {
+      w′ = closing (c .last) (c .full) .state;
+      line = closing (c .last) (c .full) .line;
+      pieces = c .pieces;
+      written = record { open-done = done; last = c .last; full = c .full; calls = c .calls; close-done = c .done; state-is = refl; line-is = refl };
+    }
+
 pub closed-again : (w : Writer) (f v : Bool) (n : ℕ) (t : Settings) (lent : List ℕ) → Held t → (kind many j : ℕ) → w .rest ≡ Part kind many j → kind ≤ 255
     → opening w f v n t lent .answer ≡ Done → Closed w f v n t lent
 closed-again w f v n t lent held kind many j r small done =
@@ -124,16 +134,11 @@ closed-again w f v n t lent held kind many j r small done =
     let can = can-open w n t (length lent) clear in
     let x = opening w f v n t lent in
     let o = opened-line w f v n t lent done in
-    let c = demand-2 .closable (x .state) (x .line)
+    closed-by w f v n t lent done
+    (demand-2 .closable (x .state) (x .line)
     (ap₂ (λ (s m : ℕ). fitsLength s m (length (x .line))) (o .of-system) (o .of-mode)
     ∙ fits-by (w .system) (w .mode) (length (x .line)) (can .known) (can .moded) (open-long (w .system) (w .mode) f v n t [] (x .state) (x .line) held (can .known) o))
-    (open-possible w f v n t lent (can .state)) (subst TypeHeld (sym (ap (λ (y : Left). y .state .rest) (open-leaves w f v n t lent clear) ∙ r)) small) (ap isAt (o .of-place)) in
-    record {
-      w′ = closing (c .last) (c .full) .state;
-      line = closing (c .last) (c .full) .line;
-      pieces = c .pieces;
-      written = record { open-done = done; last = c .last; full = c .full; calls = c .calls; close-done = c .done; state-is = refl; line-is = refl };
-    }
+    (open-possible w f v n t lent (can .state)) (subst TypeHeld (sym (ap (λ (y : Left). y .state .rest) (open-leaves w f v n t lent clear) ∙ r)) small) (ap isAt (o .of-place)))
 
 -- `blocks`: the second block of the second line, laid in two pieces, in a 625-line system and 9-bit mode
 pub blocks-1-9 : (cs : List Call) (r s : Sent) (ss : List Sent) (a b : Complete) (bs : List Complete) (p q : Piece) → sentFresh 1 9 cs ≡ r ∷ s ∷ ss
