@@ -16,7 +16,7 @@ use Rattle.words.specs.Modes.{isMode}
 use Rattle.line.specs.declared.settings.Settings.{Settings}
 use Rattle.line.specs.Systems.{systemOf, isSystem}
 use Rattle.line.specs.Settings.{Held, settingsFault}
-use Rattle.line.specs.Fixed.{isVariable, sizeOf}
+use Rattle.line.specs.Fixed.{isVariable, sizeOf, placesOf}
 use Rattle.line.specs.Header.{headerWords}
 use Rattle.line.specs.Layout.{areaLength, lineWords, areaOf}
 use Rattle.line.specs.Check.{numberOf, settingsOf, fitsLength, lineFault}
@@ -109,6 +109,11 @@ writes-1-8 t vs held clean block fits long =
 pub writes-one : (t : Settings) (bs : List Block) (x : Writes 1 8 false true 1 t bs) (r s : Sent) (ss : List Sent) → sentFresh 1 8 (x .calls) ≡ r ∷ s ∷ ss
     → (length (joined (r .pieces)) ≡ blocksEnd 1440 (r .settings .block) (r .settings .flag)) × (1 ≤ length (s .pieces))
 writes-one t bs x r s ss e = let p = subst (Packed 1) e (x .packed) in (p .0, p .1 .0)
+
+-- 287 places: 287 blocks stand on one line
+pub writes-287 : (t : Settings) (bs : List Block) (x : Writes 1 8 false true 1 t bs) → t .block ≡ 0x21 → length bs ≡ 287 → length (sentFresh 1 8 (x .calls)) ≡ 1
+unfolding placesOf pick
+writes-287 t bs x block long = x .one-line (ap isVariable block) (subst (λ (k : ℕ). length bs ≤ placesOf 1440 k) (sym block) (omega (arith, long)))
 
 -- `closable`: so every accepted opening can be closed again, with a block of any type unfinished
 pub record Closed (w : Writer) (f v : Bool) (n : ℕ) (t : Settings) (lent : List ℕ) : Type 0 where

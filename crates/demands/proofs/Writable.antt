@@ -39,6 +39,8 @@ use Rattle.writer.proofs.Pieces.{some-left, rest-left}
 use Rattle.demands.specs.All.{All}
 use Rattle.demands.specs.Sending.{Call, opens, adds, closes, Block, Complete, Sent, Desk, start, with, pieceNow, completeNow, valuesNow, openedBy, addedBy, closedBy, sendsBy, after, sends, sentBy, sentFresh, blocksOf}
 use Rattle.demands.specs.Writable.{Passes, OpenedWith, NumbersFrom, Packed, Writes}
+use Rattle.demands.proofs.AllLaws.{all-by}
+use Rattle.demands.proofs.FixedLines.{fixed-fresh, on-one}
 use Rattle.demands.proofs.DeskOk.{OpenNow, DeskOk}
 use Rattle.demands.proofs.DeskCalls.{after-opened, after-finished, after-unfinished, after-closed, refused-fault}
 use Rattle.demands.proofs.DeskOpens.{opens-say, opened-ok}
@@ -437,4 +439,8 @@ module _ (system mode : ℕ) (f v : Bool) (t : Settings) (held : Held t) (known 
         numbers = y .sent .numbers;
         packed = y .sent .packed;
         some = has-one 0 (sentFresh system mode (y .calls)) (y .sent .first);
+        one-line = λ fixed few.
+            let ss = sentFresh system mode (y .calls) in
+            on-one system t clean fixed bs few ss (has-one 0 ss (y .sent .first)) (fixed-fresh system mode (y .calls))
+            (all-by (OpenedWith f v t) (λ (s : Sent). s .settings ≡ t) (λ s o. o .1 .1) ss (y .sent .opened)) (y .sent .packed) (y .sent .blocks);
       }
