@@ -4,7 +4,7 @@ use Prim.Native.Nat.{ℕ, _-_}
 use mathlib.Core.Bool.{Bool, true}
 use mathlib.Core.List.{List, [], _∷_, _++_, append-nil}
 use mathlib.Core.Logic.{_⊎_, inl, inr, ⊎-elim}
-use mathlib.Core.Path.{_≡_, refl, sym, ap, ap₂, _∙_}
+use mathlib.Core.Path.{_≡_, refl, sym, ap, _∙_}
 use lib.ListN.{take-append-drop}
 use Rattle.line.specs.declared.settings.Settings.{Settings}
 use Rattle.writer.specs.declared.state.Rest.{Rest}
@@ -20,8 +20,8 @@ use Rattle.writer.specs.Adding.{adding}
 use Rattle.writer.specs.Closing.{closing}
 use Rattle.writer.specs.Course.{asLaid}
 use Rattle.writer.proofs.Pieces.{finished-clear}
-use Rattle.demands.specs.Sending.{Call, opens, adds, closes, Block, Complete, Sent, Desk, start, valuesNow, pieceNow, openedBy, addedBy, closedBy, sendsBy, after, sends, sentBy, sentFresh, blocksOf}
-use Rattle.demands.specs.Lent.{LendsAgain, Unchanged, finishedBy, openedWith, closedWith, lentBy, lentFresh}
+use Rattle.demands.specs.Sending.{Call, opens, adds, closes, Complete, Sent, Desk, start, valuesNow, pieceNow, openedBy, addedBy, closedBy, sendsBy, after, sends, sentBy, sentFresh, blocksOf}
+use Rattle.demands.specs.Lent.{Unchanged, finishedBy, openedWith, closedWith, lentBy, lentFresh}
 
 -- ---- the values as laid are those lent: of a new block, and of one lent again unchanged
 pub as-lent : (d : Desk) (vs : List ℕ) → (d .writer .rest ≡ Whole) ⊎ (d .values ≡ vs) → valuesNow d vs ≡ vs

@@ -3,25 +3,20 @@
 use Prim.Native.Nat.{ℕ, suc, _+_, _-_}
 use mathlib.Core.Bool.{Bool, true, false}
 use mathlib.Core.List.{List, [], _∷_, _++_}
-use mathlib.Core.Logic.{_⊎_, ⊎-elim}
 use mathlib.Core.Path.{_≡_, refl, sym, ap, ap₂, _∙_}
 use native.Mathlib.Nat.{add-zero, add-suc, suc-add, zero-add}
-use lib.ListN.{length, take-append-drop}
+use lib.ListN.{length}
 use Rattle.lists.proofs.Tests.{true-false, pick-false}
 use Rattle.line.specs.Systems.{systemOf}
 use Rattle.course.specs.declared.Last.{Last}
 use Rattle.course.specs.declared.Last.the-variants.{Unknown, Number}
 use Rattle.course.specs.Course.{isAt}
-use Rattle.writer.specs.declared.state.Rest.{Rest}
-use Rattle.writer.specs.declared.state.Rest.the-variants.{Whole}
 use Rattle.writer.specs.Answers.{Left}
-use Rattle.writer.specs.State.{laidOf}
-use Rattle.writer.specs.Course.{asLaid}
 use Rattle.writer.proofs.Keeps.{close-clear, close-leaves}
 use Rattle.writer.proofs.Refusals.{can-add, can-close}
 use Rattle.reader.specs.State.{capacity, fresh}
 use Rattle.demands.specs.All.{All}
-use Rattle.demands.specs.Sending.{Call, Block, Complete, Sent, Desk, start, valuesNow, pieceNow, completeNow, sentBy, sentFresh, blocksOf}
+use Rattle.demands.specs.Sending.{Call, Block, Complete, Sent, Desk, start, pieceNow, completeNow, sentBy, sentFresh, blocksOf}
 use Rattle.demands.specs.Hearing.{Heard, is-end, Reads, handedOut}
 use Rattle.demands.specs.Damage.{Fate, remain, keptAt, survivors}
 use Rattle.demands.specs.Demand3.{Transmission, IsFrom3, Demand3}

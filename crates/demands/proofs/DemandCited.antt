@@ -16,7 +16,7 @@ use Rattle.words.specs.Modes.{isMode}
 use Rattle.line.specs.declared.settings.Settings.{Settings}
 use Rattle.line.specs.Systems.{systemOf, isSystem}
 use Rattle.line.specs.Settings.{Held, settingsFault}
-use Rattle.line.specs.Fixed.{isVariable, sizeOf}
+use Rattle.line.specs.Fixed.{isVariable, sizeOf, placesOf}
 use Rattle.line.specs.Header.{headerWords}
 use Rattle.line.specs.Layout.{areaLength, lineWords, areaOf}
 use Rattle.line.specs.Check.{numberOf, settingsOf, fitsLength, lineFault}
@@ -52,7 +52,7 @@ use Rattle.reader.specs.Lending.{isBegun}
 use Rattle.demands.specs.All.{All}
 use Rattle.demands.specs.Sending.{Call, Block, Piece, Complete, Sent, Desk, start, sentFresh, blocksOf, joinedPieces}
 use Rattle.demands.specs.Lent.{Unchanged, lentFresh}
-use Rattle.demands.specs.Writable.{OpenedWith, NumbersFrom, Packed, Writes, TypeHeld}
+use Rattle.demands.specs.Writable.{OpenedWith, NumbersFrom, Packed, Writes, TypeHeld, Closable}
 use Rattle.demands.specs.Hearing.{Heard, is-refused, is-begun, is-block, is-end, Lends, Reads, Readable, handedOut}
 use Rattle.demands.specs.Damage.{Fate, remain, RefusedIfReplaced, longestRun, keptAt, survivors}
 use Rattle.demands.specs.Demand2.{IsLine, HasBlocks, StandsOn, IsPlaced, givenBack}
@@ -110,12 +110,27 @@ pub writes-one : (t : Settings) (bs : List Block) (x : Writes 1 8 false true 1 t
     → (length (joined (r .pieces)) ≡ blocksEnd 1440 (r .settings .block) (r .settings .flag)) × (1 ≤ length (s .pieces))
 writes-one t bs x r s ss e = let p = subst (Packed 1) e (x .packed) in (p .0, p .1 .0)
 
+-- 287 places: 287 blocks stand on one line
+pub writes-287 : (t : Settings) (bs : List Block) (x : Writes 1 8 false true 1 t bs) → t .block ≡ 0x21 → length bs ≡ 287 → length (sentFresh 1 8 (x .calls)) ≡ 1
+unfolding placesOf pick
+writes-287 t bs x block long = x .one-line (ap isVariable block) (subst (λ (k : ℕ). length bs ≤ placesOf 1440 k) (sym block) (omega (arith, long)))
+
 -- `closable`: so every accepted opening can be closed again, with a block of any type unfinished
 pub record Closed (w : Writer) (f v : Bool) (n : ℕ) (t : Settings) (lent : List ℕ) : Type 0 where
   pub w′ : Writer
   pub line : List ℕ
   pub pieces : List (List ℕ)
   pub written : Written w f v n t lent w′ line pieces
+
+closed-by : (w : Writer) (f v : Bool) (n : ℕ) (t : Settings) (lent : List ℕ) → opening w f v n t lent .answer ≡ Done
+    → Closable (opening w f v n t lent .state) (opening w f v n t lent .line) → Closed w f v n t lent
+closed-by w f v n t lent done c =
+    record {
+      w′ = closing (c .last) (c .full) .state;
+      line = closing (c .last) (c .full) .line;
+      pieces = c .pieces;
+      written = record { open-done = done; last = c .last; full = c .full; calls = c .calls; close-done = c .done; state-is = refl; line-is = refl };
+    }
 
 pub closed-again : (w : Writer) (f v : Bool) (n : ℕ) (t : Settings) (lent : List ℕ) → Held t → (kind many j : ℕ) → w .rest ≡ Part kind many j → kind ≤ 255
     → opening w f v n t lent .answer ≡ Done → Closed w f v n t lent
@@ -124,16 +139,11 @@ closed-again w f v n t lent held kind many j r small done =
     let can = can-open w n t (length lent) clear in
     let x = opening w f v n t lent in
     let o = opened-line w f v n t lent done in
-    let c = demand-2 .closable (x .state) (x .line)
+    closed-by w f v n t lent done
+    (demand-2 .closable (x .state) (x .line)
     (ap₂ (λ (s m : ℕ). fitsLength s m (length (x .line))) (o .of-system) (o .of-mode)
     ∙ fits-by (w .system) (w .mode) (length (x .line)) (can .known) (can .moded) (open-long (w .system) (w .mode) f v n t [] (x .state) (x .line) held (can .known) o))
-    (open-possible w f v n t lent (can .state)) (subst TypeHeld (sym (ap (λ (y : Left). y .state .rest) (open-leaves w f v n t lent clear) ∙ r)) small) (ap isAt (o .of-place)) in
-    record {
-      w′ = closing (c .last) (c .full) .state;
-      line = closing (c .last) (c .full) .line;
-      pieces = c .pieces;
-      written = record { open-done = done; last = c .last; full = c .full; calls = c .calls; close-done = c .done; state-is = refl; line-is = refl };
-    }
+    (open-possible w f v n t lent (can .state)) (subst TypeHeld (sym (ap (λ (y : Left). y .state .rest) (open-leaves w f v n t lent clear) ∙ r)) small) (ap isAt (o .of-place)))
 
 -- `blocks`: the second block of the second line, laid in two pieces, in a 625-line system and 9-bit mode
 pub blocks-1-9 : (cs : List Call) (r s : Sent) (ss : List Sent) (a b : Complete) (bs : List Complete) (p q : Piece) → sentFresh 1 9 cs ≡ r ∷ s ∷ ss

@@ -29,6 +29,7 @@ pub mod Follow
 pub mod Notices
 pub mod Placed
 pub mod Unrefused
+pub mod FixedLines
 pub mod Writable
 pub mod Closing
 pub mod Demand2Holds

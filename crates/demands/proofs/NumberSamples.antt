@@ -1,20 +1,15 @@
 -- 01's numbers for what a reading call reports, for what an addition answers, and for the phase: each case once, in numbers.
 -- Assumes nothing.
-use Prim.Native.Nat.{ℕ}
 use mathlib.Core.Bool.{true, false}
-use mathlib.Core.List.{List, [], _∷_, map}
+use mathlib.Core.List.{[], _∷_, map}
 use mathlib.Core.Path.{_≡_, refl}
-use lib.IntN.{ℤ, pos, negsuc}
-use Rattle.machine.specs.declared.phase.Phase.{Phase}
+use lib.IntN.{pos, negsuc}
 use Rattle.machine.specs.declared.phase.Phase.the-variants.{Idle, Kind, First, Second, Third, Fourth, Data}
 use Rattle.machine.specs.Phases.{phaseNumbers}
-use Rattle.writer.specs.declared.state.Answer.{Answer}
 use Rattle.writer.specs.declared.state.Answer.the-variants.{Refused as NotDone, Done}
-use Rattle.writer.specs.declared.state.Laid.{Laid}
 use Rattle.writer.specs.declared.state.Laid.the-variants.{Not, Finished, Unfinished}
 use Rattle.writer.specs.Answers.{answerNumbers, laidNumbers}
 use Rattle.reader.specs.declared.jump.Jump.the-variants.{Unknown, Known}
-use Rattle.reader.specs.declared.state.Event.{Event}
 use Rattle.reader.specs.declared.state.Event.the-variants.{Refused, Begun, Block, Drop, End}
 use Rattle.reader.specs.Events.{eventNumbers}
 

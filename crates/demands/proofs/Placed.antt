@@ -1,7 +1,7 @@
 -- Where a block's words are: a piece laid on the open line stands in that line when it is closed, and its number is then how many were closed before.
 -- Assumes nothing.
 use Prim.Native.Nat.{ℕ, zero, suc, _+_, _-_, _≤_}
-use mathlib.Core.Bool.{Bool, true, false}
+use mathlib.Core.Bool.{true}
 use mathlib.Core.List.{List, [], _∷_, _++_, append-assoc}
 use mathlib.Core.Logic.{_⊎_, inl, inr, ⊎-elim}
 use mathlib.Core.Path.{_≡_, refl, sym, ap, _∙_, subst}
@@ -22,7 +22,7 @@ use Rattle.writer.specs.Course.{joined, areaFrom}
 use Rattle.writer.proofs.Keeps.{add-leaves, close-clear}
 use Rattle.writer.proofs.Refusals.{can-add, can-close}
 use Rattle.demands.specs.All.{All}
-use Rattle.demands.specs.Sending.{Call, Piece, Complete, Sent, Desk, start, with, pieceNow, completeNow, sentBy, sentFresh, blocksOf}
+use Rattle.demands.specs.Sending.{Call, Piece, Complete, Sent, Desk, start, with, pieceNow, completeNow, sentFresh, blocksOf}
 use Rattle.demands.specs.Demand2.{StandsIn, StandsOn, IsPlaced}
 use Rattle.demands.proofs.AllLaws.{all-more, all-by, all-append}
 use Rattle.demands.proofs.DeskOk.{DeskOk}

@@ -3,13 +3,13 @@
 use Prim.Native.Nat.{ℕ, _+_, _-_, _^_, _≤_, _<_}
 use mathlib.Core.Bool.{Bool, true, false, _&&_, _||_, not}
 use mathlib.Core.List.{List, [], _∷_, _++_}
-use mathlib.Core.Path.{_≡_, refl, sym, ap, ap₂, _∙_, subst}
+use mathlib.Core.Path.{_≡_, refl, sym, ap, _∙_, subst}
 use native.Mathlib.Omega.{arith}
-use lib.Dec.{eqb, leb, ltb}
+use lib.Dec.{eqb, ltb}
 use lib.ListN.{length, replicate, length-append, length-replicate}
 use borrow.Author.Tests.{eqb-true, eq-eqb, ne-eqb, lt-ltb, le-ltb, le-leb, lt-leb}
-use Rattle.lists.specs.Lists.{same, each}
-use Rattle.lists.proofs.Tests.{true-false, false-or, and-true, pick-false, pick-true}
+use Rattle.lists.specs.Lists.{each}
+use Rattle.lists.proofs.Tests.{true-false, false-or, and-true, pick-false}
 use Rattle.lists.proofs.Refusals.{clear-lowest}
 use Rattle.lists.proofs.Lists.{eq-same}
 use Rattle.words.specs.Modes.{isMode, values}
@@ -17,16 +17,14 @@ use Rattle.line.specs.declared.settings.Settings.{Settings}
 use Rattle.line.specs.Systems.{systemOf, isSystem}
 use Rattle.line.specs.Fixed.{isVariable, sizeOf}
 use Rattle.line.specs.Settings.{Held, settingsFault, sameSettings}
-use Rattle.line.specs.Layout.{areaLength}
 use Rattle.line.specs.Check.{fitsLength}
 use Rattle.line.proofs.SystemLaws.{sound}
 use Rattle.line.proofs.AreaLaws.{area-most}
 use Rattle.line.proofs.SettingsLaws.{block-passes}
 use Rattle.course.specs.declared.Place.{Place}
-use Rattle.course.specs.declared.Place.the-variants.{Shut, At}
-use Rattle.course.specs.Course.{isAt, placeOf, blocksEnd}
+use Rattle.course.specs.declared.Place.the-variants.{At}
+use Rattle.course.specs.Course.{isAt, blocksEnd}
 use Rattle.course.proofs.CourseLaws.{start-placed, grid-some, whole-small}
-use Rattle.writer.specs.declared.state.Rest.{Rest}
 use Rattle.writer.specs.declared.state.Writer.{Writer}
 use Rattle.writer.specs.State.{most, isPart, impossible, endIn}
 use Rattle.writer.specs.Opening.{openBlocked, openFault}

@@ -7,7 +7,6 @@ use mathlib.Core.List.{List, [], _∷_, _++_, map, append-nil, append-assoc, map
 use mathlib.Core.Logic.{_⊎_, inl, inr, ⊎-elim}
 use mathlib.Core.Path.{_≡_, refl, sym, ap, ap₂, _∙_, subst}
 use native.Mathlib.Omega.{arith}
-use lib.Dec.{eqb, leb}
 use lib.ListN.{length, drop, replicate, length-append, length-drop, length-replicate}
 use borrow.Author.Tests.{eq-eqb, eqb-false, leb-true}
 use Rattle.lists.proofs.Tests.{or-right, and-true}
@@ -18,13 +17,11 @@ use Rattle.line.specs.Settings.{Held, settingsFault, sameSettings}
 use Rattle.line.specs.Check.{fitsLength}
 use Rattle.course.specs.declared.Last.{Last}
 use Rattle.course.specs.declared.Last.the-variants.{Number}
-use Rattle.course.specs.declared.Place.{Place}
-use Rattle.course.specs.declared.Place.the-variants.{Shut, At}
+use Rattle.course.specs.declared.Place.the-variants.{At}
 use Rattle.course.specs.Course.{isAt, placeOf, nextNumber, blocksEnd, misplaced}
 use Rattle.course.proofs.CourseLaws.{placed-end}
 use Rattle.writer.specs.declared.state.Rest.{Rest}
-use Rattle.writer.specs.declared.state.Rest.the-variants.{Whole, Part}
-use Rattle.writer.specs.declared.state.Writer.{Writer}
+use Rattle.writer.specs.declared.state.Rest.the-variants.{Whole}
 use Rattle.writer.specs.declared.state.Answer.{Answer}
 use Rattle.writer.specs.declared.state.Answer.the-variants.{Done}
 use Rattle.writer.specs.declared.state.Laid.{Laid}
@@ -42,6 +39,8 @@ use Rattle.writer.proofs.Pieces.{some-left, rest-left}
 use Rattle.demands.specs.All.{All}
 use Rattle.demands.specs.Sending.{Call, opens, adds, closes, Block, Complete, Sent, Desk, start, with, pieceNow, completeNow, valuesNow, openedBy, addedBy, closedBy, sendsBy, after, sends, sentBy, sentFresh, blocksOf}
 use Rattle.demands.specs.Writable.{Passes, OpenedWith, NumbersFrom, Packed, Writes}
+use Rattle.demands.proofs.AllLaws.{all-by}
+use Rattle.demands.proofs.FixedLines.{fixed-fresh, on-one}
 use Rattle.demands.proofs.DeskOk.{OpenNow, DeskOk}
 use Rattle.demands.proofs.DeskCalls.{after-opened, after-finished, after-unfinished, after-closed, refused-fault}
 use Rattle.demands.proofs.DeskOpens.{opens-say, opened-ok}
@@ -440,4 +439,8 @@ module _ (system mode : ℕ) (f v : Bool) (t : Settings) (held : Held t) (known 
         numbers = y .sent .numbers;
         packed = y .sent .packed;
         some = has-one 0 (sentFresh system mode (y .calls)) (y .sent .first);
+        one-line = λ fixed few.
+            let ss = sentFresh system mode (y .calls) in
+            on-one system t clean fixed bs few ss (has-one 0 ss (y .sent .first)) (fixed-fresh system mode (y .calls))
+            (all-by (OpenedWith f v t) (λ (s : Sent). s .settings ≡ t) (λ s o. o .1 .1) ss (y .sent .opened)) (y .sent .packed) (y .sent .blocks);
       }

@@ -7,7 +7,7 @@ use mathlib.Core.Path.{_≡_}
 use lib.ListN.{length}
 use Rattle.line.specs.declared.settings.Settings.{Settings}
 use Rattle.line.specs.Systems.{systemOf}
-use Rattle.line.specs.Fixed.{isVariable, sizeOf}
+use Rattle.line.specs.Fixed.{isVariable, sizeOf, placesOf}
 use Rattle.course.specs.Course.{nextNumber, blocksEnd}
 use Rattle.writer.specs.declared.state.Rest.{Rest}
 use Rattle.writer.specs.declared.state.Rest.the-variants.{Whole, Part}
@@ -52,6 +52,8 @@ pub record Writes (system mode : ℕ) (f v : Bool) (n : ℕ) (t : Settings) (bs 
   pub numbers : NumbersFrom (systemOf system .lines) n (sentFresh system mode calls)
   pub packed : Packed system (sentFresh system mode calls)
   pub some : 1 ≤ length (sentFresh system mode calls)
+  -- a fixed line takes as many blocks as it has places
+  pub one-line : isVariable (t .block) ≡ false → length bs ≤ placesOf (systemOf system .payload) (t .block) → length (sentFresh system mode calls) ≡ 1
 
 -- the type of an unfinished block is one byte, as the writer's state has it
 abbrev pub TypeHeld : Rest → Type 0
