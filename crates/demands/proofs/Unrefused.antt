@@ -9,7 +9,7 @@ use lib.Dec.{eqb, ltb}
 use lib.ListN.{length, replicate, length-append, length-replicate}
 use borrow.Author.Tests.{eqb-true, eq-eqb, ne-eqb, lt-ltb, le-ltb, le-leb, lt-leb}
 use Rattle.lists.specs.Lists.{each}
-use Rattle.lists.proofs.Tests.{true-false, false-or, and-true, pick-false}
+use Rattle.lists.proofs.Tests.{true-false, false-or, and-true}
 use Rattle.lists.proofs.Refusals.{clear-lowest}
 use Rattle.lists.proofs.Lists.{eq-same}
 use Rattle.words.specs.Modes.{isMode, values}
