@@ -31,6 +31,7 @@ class Book:
         """Opens the next line, or one of that number."""
         number = number or self.number
         self.number = number % self.scope.systems[self.system][2] + 1
+        self.headed = None  # the step makes a heading of its own
         self.step("open", number, timing, aai, block, flag, to, source)
 
     def words(self, place, words):

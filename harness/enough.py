@@ -1,6 +1,7 @@
 """What the rows of crates/heard/stdout have to hold, so that files cut short do not pass."""
 import itertools
 
+import kinds
 from courses import ENDS
 from lines import BYTE_FORM, DATA_FORM, FILLER
 from words import VARIABLE
@@ -54,6 +55,6 @@ def missing(scope, play):
     for kind, n in LISTS.items():
         if play.seen["crc", kind] < n:
             yield f"fewer than {n} lists of kind and length {kind}"
-    for what in itertools.chain(reader(scope), writer(scope), check(scope)):
+    for what in itertools.chain(reader(scope), writer(scope), check(scope), kinds.asked(scope)):
         if not play.seen[what]:
             yield f"nowhere {what}"
