@@ -1,4 +1,4 @@
-"""A book of steps, for the cases in script.py, lines.py, courses.py and put.py."""
+"""A book of steps, for the cases in script.py, lines.py, courses.py, put.py and edges.py."""
 from states import HEADING, SETTINGS, WRITER
 from words import VARIABLE, block_words, byte_form, settings
 

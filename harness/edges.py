@@ -1,11 +1,10 @@
 """Cases at edges that mutants of the code passed by: word 300h, settings that go on to 0, the writer's impossible rests, `is_impossible` itself."""
 from book import ROOM, whole
+from kinds import EDGE, TO_0
 from lines import Checked
 from put import state
 from states import READER, SETTINGS, WRITER
 from words import VARIABLE, block_head, byte_form
-
-EDGE = 0x300  # the first word above data form: B9 and B8 are both 1
 
 # Words of the header in byte form and in data form, and what is mended so that nothing else is wrong with the line
 IN_HEADER = [(10, 2), (11, 2), (14, 2), (20, 2), (45, 2), (47, 2), (48, 2), (53, 2), (12, 1), (13, 1), (54, 1), (55, 1), (56, 0)]
@@ -34,8 +33,6 @@ def area_words(book):
 
 
 # ---- settings that go on to 0
-
-TO_0 = {1: "aai", 3: "flag"}  # by their index
 
 
 def writer_to_0(book):

@@ -1,7 +1,7 @@
 """Kinds of rows at edges, by which enough.py asks for the cases of edges.py: what a step has met beside its answer."""
 from writer import Writer
 
-EDGE = 0x300
+EDGE = 0x300  # the first word above data form: B9 and B8 are both 1
 TO_0 = {1: "aai", 3: "flag"}  # settings by their index
 
 

@@ -10,14 +10,14 @@ use lib.Dec.{eqb}
 use lib.ListN.{length}
 use borrow.Author.Tests.{eqb-true}
 use Rattle.lists.proofs.Tests.{true-false, pick-false}
-use Rattle.line.specs.Check.{numberOf, settingsOf, fits, lineFault}
+use Rattle.line.specs.Check.{fits, lineFault}
 use Rattle.course.specs.declared.Place.the-variants.{Shut, At}
 use Rattle.reader.specs.declared.state.Reader.{Reader}
 use Rattle.reader.specs.Reading.{Call, call, refused, begun, readFault, readingIn, reading}
 use Rattle.reader.specs.Lending.{isLast}
 use Rattle.reader.proofs.Ends.{Ended, Further}
 use Rattle.reader.proofs.AtCapacity.{ready, unfaulted, accepts, refuses, read-possible, call-moves}
-use Rattle.listing.specs.Lines.{Listed, listed, called, calledBy}
+use Rattle.listing.specs.Lines.{Listed, called, calledBy}
 use Rattle.listing.proofs.LineLaws.{one-more, none-behind}
 
 -- no line is begun, and the system is the same

@@ -1,16 +1,15 @@
 -- Laws of a text that grows: bytes laid behind its first n, and rows.
 -- Assumes nothing.
-use mathlib.Core.Path.{_≡_, refl, sym, ap, ap₂, _∙_}
-use mathlib.Core.List.{List, [], _∷_, _++_, append-nil}
-use Prim.Native.Nat.{ℕ, zero, suc, _+_, _-_, _≤_, _<_}
+use mathlib.Core.Path.{_≡_, refl, sym, ap, _∙_}
+use mathlib.Core.List.{List, _++_, append-nil}
+use Prim.Native.Nat.{ℕ, _+_, _-_, _≤_, _<_}
 use native.Mathlib.Omega.{arith}
 use lib.ListN.{length, getD, set, take, replicate, length-set, length-append}
-use lib.Seq.{length-take-le, take-all, take-append-seam}
+use lib.Seq.{take-all, take-append-seam}
 use Rattle.lists.proofs.Loops.{lay-next}
 use Rattle.reader.specs.declared.state.Event.{Event}
 use Rattle.rows.specs.declared.Row.{Row}
 use Rattle.rows.specs.Rows.{rowText, rowOf}
-use Rattle.rows.proofs.RowLaws.{inside}
 
 -- ---- the first i bytes of s are laid behind the first n of a text
 pub record Laying (s : List ℕ) (n : ℕ) (before text : List ℕ) (i : ℕ) : Type 0 where

@@ -32,16 +32,22 @@ unfoldable pub calledBy : ℕ → List ℕ → Listed → Listed
 calledBy zero line s = s
 calledBy (suc n) line s = let on = calledBy n line (called line s) in pick (s .over) s on
 
--- The rows of a line: 1,442 calls are enough for a line of system 0 (`lines-end` in proofs/LineLaws.antt), so that none is cut short.
+-- The rows of a line: 1,442 calls are enough for a line of system 0 (`enough-calls` in proofs/LineLaws.antt), so that none is cut short.
 abbrev pub most : ℕ
 most = 1442
 
 unfoldable pub listing : Reader → List ℕ → List ℕ → Listed
 listing st line room = calledBy most line (listed false st room [])
 
--- State, room and text are those of the line listed; and where no line was begun, in system 0, its last event was reported.
+-- between two lines: system 0, and no line begun
+pub record Between (st : Reader) : Type 0 where
+  pub zeroth : st .system ≡ 0
+  pub shut : st .place ≡ Shut
+
+-- State, room and text are those of the line listed. Between two lines its last event was reported, and it is between two lines again.
 pub record Lists (st : Reader) (line before : List ℕ) (after : Reader) (room text : List ℕ) : Type 0 where
   pub same-state : after ≡ listing st line before .state
   pub same-room : room ≡ listing st line before .room
   pub same-text : text ≡ listing st line before .text
-  pub is-over : st .place ≡ Shut → st .system ≡ 0 → listing st line before .over ≡ true
+  pub is-over : Between st → listing st line before .over ≡ true
+  pub stays : Between st → Between after

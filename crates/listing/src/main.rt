@@ -1,5 +1,6 @@
 // Lists the lines on standard input, of system 0 and 8-bit, two bytes a word, low byte first: a row for each event. Every row's
-// text is rows::row_of's; here data is only moved.
+// text is rows::row_of's. The rows of a line are a text in memory before they are written, because no contract can say what
+// io::write_all has written: list_line promises the text, and what is written is the text of list_line, line by line.
 use libc::STDIN_FILENO;
 use libc::STDOUT_FILENO;
 use reader::read;
@@ -13,7 +14,7 @@ ghost use Prim.Native.Nat.{_+_, _≤_};
 ghost use lib.ListN.{length, take};
 ghost use Rattle.reader.specs.Lending.{isLast};
 ghost use Rattle.rows.specs.Rows.{rowText};
-ghost use Rattle.listing.specs.Lines.{Lists};
+ghost use Rattle.listing.specs.Lines.{Between, Lists};
 
 // What goes from line to line: the reader's state, and whether more lines may come.
 pub struct Kept {
@@ -71,7 +72,8 @@ pub struct Left {
     pub length: usize,
 }
 
-// The rows of a line. It is begun once and ends once, and each call between takes one of its 1,440 words or more.
+// The rows of a line as a text. It is begun once and ends once, and each call between takes one of its 1,440 words or more: so 1,442
+// calls are enough, and 48 bytes a row.
 fn list_line(st: Reader, line: &[u16], room: &mut [u16], text: &mut [u8]) -> Left
     requires { ⌜ length (now text) ≡ 69216 ⌝ }
     ensures { λ r. ⌜ Lists st (now (line .entry)) (now (room .entry)) (r .state) (now (room .exit)) (take (r .length) (now (text .exit)))
@@ -96,9 +98,10 @@ fn list_line(st: Reader, line: &[u16], room: &mut [u16], text: &mut [u8]) -> Lef
     }
 }
 
-// Reads a line and lists it. A line that is cut is refused, and is the last.
+// Reads a line and lists it. A line that is cut is refused, and is the last. No line is begun where the next one is read.
 fn next_line(kept: Kept, room: &mut [u16; 16384], text: &mut [u8]) -> Kept
     requires { ⌜ length (now text) ≡ 69216 ⌝ }
+    ensures { λ r. ⌜ (Between (kept .state) → Between (r .state)) ⌝ }
 {
     let st = kept.state;
     let mut bytes = [0u8; 3432];

@@ -2,14 +2,9 @@
 use Prim.Native.Nat.{_-_}
 use native.Mathlib.Omega.{arith}
 use borrow.Author.Needs.{needs}
-use Rattle.listing.proofs.LineLaws.{Lines, lines-start, lines-turn, lines-over, lines-all}
+use Rattle.listing.proofs.LoopLaws.{Lines, lines-start, lines-turn, lines-over, lines-all}
 use Rattle.listing.proofs.list_line.Statement.{statement}
 use Rattle.listing.proofs.list_line.Tie as tie
-use Rattle.listing.proofs.list_line.Reads as reads
-use Rattle.listing.proofs.list_line.Lts as lts
-use Rattle.listing.proofs.goes_on.Reads as goes-on-reads
-use Rattle.listing.proofs.put_row.Reads as put-row-reads
-use Rattle.reader.proofs.read.read.Reads as read-reads
 
 abbrev Inv-loop : tie.InvT-loop
 Inv-loop line room₀ text₀ state₀ more₀ calls₀ n₀ room text state more calls n = Lines line state₀ room₀ text₀ state room text more calls n
@@ -17,37 +12,34 @@ Inv-loop line room₀ text₀ state₀ more₀ calls₀ n₀ room text state mor
 abbrev μ-loop : tie.MeasureT-loop
 μ-loop line room₀ text₀ state₀ more₀ calls₀ n₀ room text state more calls n = 1442 - calls
 
--- src/main.rt:83:5
 loop-holds : tie.Need-loop-holds Inv-loop μ-loop
 loop-holds c = lines-start _ _ _ _
 
--- src/main.rt:84:13
 read-requires : tie.Need-read-requires Inv-loop μ-loop
 read-requires c κs = search needs
 
--- src/main.rt:87:9
 put-row-requires : tie.Need-put-row-requires Inv-loop μ-loop
 put-row-requires c κs =
     let l = c .before .before .before .before .before .before .before .before .loop .inv in
     omega (arith, l .short, l .same-text, c .before .before .before .before .before .before .before .loop-test .taken, c .before .before .before .before .before .before .before .before .before .before .before .before .pre)
 
--- src/main.rt:88:9
 goes-on-requires : tie.Need-goes-on-requires Inv-loop μ-loop
 goes-on-requires c κs = search needs
 
--- src/main.rt:90:9
 add-calls : tie.Need-add-calls Inv-loop μ-loop
 add-calls c = omega (arith, c .before .before .before .before .before .before .before .before .before .before .before .loop-test .taken)
 
--- src/main.rt:83:5
 loop-less : tie.Need-loop-less Inv-loop μ-loop
 loop-less c = omega (arith, c .before .before .before .before .before .before .before .before .before .before .before .loop-test .taken)
 
--- src/main.rt:83:5
 loop-again : tie.Need-loop-again Inv-loop μ-loop
 loop-again c =
     let p = c .before .before .before .put-row in
-    lines-turn _ _ _ _ _ _ _ _ _ _ (c .before .before .before .before .before .before .before .before .read .result) _ _ _ _ (c .before .before .before .before .before .before .before .before .before .before .before .before .loop .inv) (c .before .before .before .before .before .before .before .before .before .before .if1 .taken) (c .before .before .before .before .before .before .before .before .before .before .before .loop-test .taken)
+    let told = c .before .before .before .before .before .before .before .before .read .result in
+    let l = c .before .before .before .before .before .before .before .before .before .before .before .before .loop .inv in
+    let goes = c .before .before .before .before .before .before .before .before .before .before .if1 .taken in
+    lines-turn _ _ _ _ _ _ _ _ _ _ told _ _ _ _ l goes
+    (omega (arith, c .before .before .before .before .before .before .before .before .before .before .before .loop-test .taken))
     (record {
       call-is = c .before .before .before .before .before .before .before .before .read .ensures;
       row-is = p .ensures .0;
@@ -57,29 +49,23 @@ loop-again c =
       text-long = search needs;
     })
 
--- src/main.rt:75:1
 same-length : tie.Need-same-length Inv-loop μ-loop
 same-length c = c .before .before .loop .inv .same-room
 
--- src/main.rt:75:1
 same-length-2 : tie.Need-same-length-2 Inv-loop μ-loop
 same-length-2 c = c .before .before .loop .inv .same-text
 
--- src/main.rt:75:1
 returns : tie.Need-returns Inv-loop μ-loop
 returns c =
     let l = c .before .before .loop .inv in
     (lines-over _ _ _ _ _ _ _ _ _ _ l (c .if1 .left), omega (arith, l .short, l .few, l .same-text, c .before .before .before .before .before .before .pre))
 
--- src/main.rt:75:1
 same-length-3 : tie.Need-same-length-3 Inv-loop μ-loop
 same-length-3 c = c .before .loop .inv .same-room
 
--- src/main.rt:75:1
 same-length-4 : tie.Need-same-length-4 Inv-loop μ-loop
 same-length-4 c = c .before .loop .inv .same-text
 
--- src/main.rt:75:1
 returns-2 : tie.Need-returns-2 Inv-loop μ-loop
 returns-2 c =
     let l = c .before .loop .inv in

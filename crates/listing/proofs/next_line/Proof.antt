@@ -4,87 +4,61 @@ use lib.Seq.{length-take-le}
 use borrow.Author.Needs.{needs}
 use Rattle.listing.proofs.next_line.Statement.{statement}
 use Rattle.listing.proofs.next_line.Tie as tie
-use Rattle.listing.proofs.next_line.Reads as reads
-use Rattle.listing.proofs.next_line.Lts as lts
-use Rattle.io.proofs.read_full.Reads as read-full-reads
-use Rattle.io.proofs.write_all.Reads as write-all-reads
-use Rattle.listing.proofs.list_line.Reads as list-line-reads
-use Rattle.listing.proofs.put_row.Reads as put-row-reads
-use Rattle.octets.proofs.words_of.Reads as words-of-reads
 
--- src/main.rt:104:41
 slice-aggregate-read-full : tie.Need-slice-aggregate-read-full
 slice-aggregate-read-full c = search needs
 
--- src/main.rt:104:9
 read-full-requires : tie.Need-read-full-requires
 read-full-requires c κs = search needs
 
--- src/main.rt:106:9
 returns : tie.Need-returns
 returns c = search needs
 
--- src/main.rt:116:13
 put-row-requires : tie.Need-put-row-requires
 put-row-requires c κs = search needs
 
--- src/main.rt:117:38
 slice-reshare-prefix-write-all : tie.Need-slice-reshare-prefix-write-all
 slice-reshare-prefix-write-all c = search needs
 
--- src/main.rt:117:38
 slice-aggregate-write-all : tie.Need-slice-aggregate-write-all
 slice-aggregate-write-all c = sym (length-take-le _ _ (slice-reshare-prefix-write-all (c .before)))
 
--- src/main.rt:117:9
 write-all-requires : tie.Need-write-all-requires
 write-all-requires c κs = search needs
 
--- src/main.rt:118:9
 same-length : tie.Need-same-length
 same-length c = search needs
 
--- src/main.rt:118:9
 returns-2 : tie.Need-returns-2
 returns-2 c = search needs
 
--- src/main.rt:124:22
 slice-aggregate-words-of : tie.Need-slice-aggregate-words-of
 slice-aggregate-words-of c = search needs
 
--- src/main.rt:124:30
 slice-aggregate-words-of-2 : tie.Need-slice-aggregate-words-of-2
 slice-aggregate-words-of-2 c = search needs
 
--- src/main.rt:124:5
 words-of-requires : tie.Need-words-of-requires
 words-of-requires c κs = search needs
 
--- src/main.rt:125:30
 slice-aggregate-list-line : tie.Need-slice-aggregate-list-line
 slice-aggregate-list-line c = search needs
 
--- src/main.rt:125:9
 list-line-requires : tie.Need-list-line-requires
 list-line-requires c κs = search needs
 
--- src/main.rt:128:34
 slice-reshare-prefix-write-all-2 : tie.Need-slice-reshare-prefix-write-all-2
 slice-reshare-prefix-write-all-2 c = c .before .before .before .list-line .ensures .1
 
--- src/main.rt:128:34
 slice-aggregate-write-all-2 : tie.Need-slice-aggregate-write-all-2
 slice-aggregate-write-all-2 c = sym (length-take-le _ _ (slice-reshare-prefix-write-all-2 (c .before)))
 
--- src/main.rt:128:5
 write-all-requires-2 : tie.Need-write-all-requires-2
 write-all-requires-2 c κs = search needs
 
--- src/main.rt:99:1
 same-length-2 : tie.Need-same-length-2
 same-length-2 c = search needs
 
--- src/main.rt:99:1
 returns-3 : tie.Need-returns-3
 returns-3 c = search needs
 

@@ -1,15 +1,12 @@
 -- `listing::put_bytes` meets its contract. Assumes nothing.
-use mathlib.Core.Path.{_≡_, refl, sym, ap, _∙_}
-use mathlib.Core.List.{List, _++_}
-use Prim.Native.Nat.{ℕ, _+_, _-_, _≤_}
+use mathlib.Core.Path.{refl}
+use Prim.Native.Nat.{_-_}
 use native.Mathlib.Omega.{arith}
-use lib.ListN.{length, take}
+use lib.ListN.{length}
 use Rattle.listing.proofs.TextLaws.{Laying, lay-start, lay-turn, lay-end}
 use borrow.Author.Needs.{needs}
 use Rattle.listing.proofs.put_bytes.Statement.{statement}
 use Rattle.listing.proofs.put_bytes.Tie as tie
-use Rattle.listing.proofs.put_bytes.Reads as reads
-use Rattle.listing.proofs.put_bytes.Lts as lts
 
 abbrev Inv-loop : tie.InvT-loop
 Inv-loop s n text₀ i₀ text i = Laying s n text₀ text i
