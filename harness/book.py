@@ -1,4 +1,4 @@
-"""A book of steps, for the cases in script.py, lines.py, courses.py and put.py."""
+"""A book of steps, for the cases in script.py, lines.py, courses.py, put.py and edges.py."""
 from states import BUFFER, HEADING, SETTINGS, WRITER
 from words import VARIABLE, block_words, byte_form, settings
 
@@ -30,6 +30,7 @@ class Book:
         """Opens the next line, or one of that number."""
         number = number or self.number
         self.number = number % self.scope.systems[self.system][2] + 1
+        self.headed = None  # the step makes a heading of its own
         self.step("open", number, timing, aai, block, flag, to, source)
 
     def words(self, place, words):

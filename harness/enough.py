@@ -1,13 +1,14 @@
 """What the rows of crates/heard/stdout have to hold, so that files cut short do not pass."""
 import itertools
 
+import kinds
 from courses import ENDS
 from lines import BYTE_FORM, DATA_FORM, SAME
 from words import VARIABLE
 
 # Rows of each name, and events of each kind in each mode
-ROWS = {"close": 1151, "read": 1700, "room": 157, "opened": 900, "added": 900, "closed": 350, "check": 992, "crc": 172, "header": 30}
-ROWS |= {"state": 1100, "impossible": 390, "words": 16}
+ROWS = {"close": 1231, "read": 1880, "room": 159, "opened": 1130, "added": 1000, "closed": 440, "check": 1094, "crc": 172, "header": 30}
+ROWS |= {"state": 1280, "impossible": 555, "words": 16}
 EVENTS = {"begun": 300, "begun dropped": 15, "begun with an open block": 50, "block": 1000, "end": 400, "refused 1": 80, "refused 2": 30}
 EVENTS |= {f"drop {k}": 4 for k in range(1, 7)} | {f"refused {k}{how}": 1 for k in range(3, 17) for how in ("", " dropped")}
 
@@ -54,6 +55,6 @@ def missing(scope, play):
     for kind, n in LISTS.items():
         if play.seen["crc", kind] < n:
             yield f"fewer than {n} lists of kind and length {kind}"
-    for what in itertools.chain(reader(scope), writer(scope), check(scope)):
+    for what in itertools.chain(reader(scope), writer(scope), check(scope), kinds.asked(scope)):
         if not play.seen[what]:
             yield f"nowhere {what}"

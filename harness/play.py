@@ -2,6 +2,7 @@
 import collections
 import sys
 
+import kinds
 from answers import answer
 from reader import IDLE, Reader, said
 from states import BUFFER, COUNT, HEADING, READER, SETTINGS, WRITER, of_phase, to_numbers, to_reader, to_writer
@@ -81,8 +82,10 @@ class Play:
         self.rows.append(["state", *self.states[which]])
 
     def big_impossible(self):
-        both = [int(to_reader(self.scope, self.states[READER]).impossible()), int(to_writer(self.scope, self.states[WRITER]).impossible())]
+        reader = to_reader(self.scope, self.states[READER])
+        both = [int(reader.impossible()), int(to_writer(self.scope, self.states[WRITER]).impossible())]
         self.seen["impossible", *both] += 1
+        self.seen.update(kinds.of_phase(reader.phase, both[0]))
         self.rows.append(["impossible", *both])
 
     # Words of the line
@@ -135,27 +138,32 @@ class Play:
         self.open_by(self.scope.systems[system][0], number, timing)
 
     def big_open(self, length, number, timing):
-        self.tell_call("opened", *self.open_by(length, number, timing))
+        before = to_writer(self.scope, self.states[WRITER])
+        given, register = self.open_by(length, number, timing)
+        self.seen.update(kinds.of_opening(before, number, self.states[HEADING][SETTINGS:], given))
+        self.tell_call("opened", before, given, register)
 
     def close(self):
         length = self.scope.systems[self.system()][0]
         self.rows.append(["close", *self.lent(length, Writer.close)])
 
     def big_close(self, length):
-        self.tell_call("closed", *self.lent(length, Writer.close))
+        before = to_writer(self.scope, self.states[WRITER])
+        self.tell_call("closed", before, *self.lent(length, Writer.close))
 
     def big_room(self, index, count, kind, seed):
         self.room[index : index + count] = made_words(kind, count, seed)
 
     def big_add(self, length, kind, count):
-        begun = self.states[WRITER][6]
+        before = to_writer(self.scope, self.states[WRITER])
         given, register = self.lent(length, lambda w, line: w.add(kind, self.room[:count], line))
-        self.tell_call("added", given, register)
+        self.tell_call("added", before, given, register)
         if given == DONE:
-            self.see_end(count, begun)
+            self.see_end(count, before.rest is not None)
 
-    def tell_call(self, name, given, register):
+    def tell_call(self, name, before, given, register):
         system, mode = self.states[WRITER][:2]
+        self.seen.update(kinds.of_rest(name, before, given))
         self.seen[name, "system", system, given] += 1
         self.seen[name, "mode", mode, given] += 1
         self.rows.append([name, given, register])
@@ -172,9 +180,10 @@ class Play:
     def read(self, times, length, room):
         row, reader = ["read"], to_reader(self.scope, self.states[READER])
         for _ in range(times):
-            lent = self.room[:room]
+            lent, held = self.room[:room], reader.settings
             event = reader.read(self.line[:length], lent)
             self.room[:room] = lent
+            self.seen.update(kinds.of_begun(reader.mode, held, reader.settings, event))
             row += [said(event), Register(lent[: event[2]])] if event[0] == "block" else [said(event)]
             self.count(reader, event)
             if event[0] in ("refused", "end"):
@@ -221,6 +230,7 @@ class Play:
         line = self.line[:length]
         fault, number, values = answer(self.scope, system, mode, line)
         self.seen["check", system, fault] += 1
+        self.seen.update(kinds.of_line(self.scope, system, mode, line, fault))
         if fault == 0:
             self.seen["good", system, mode, *values[2:4]] += 1
         self.rows.append(["check", Register(line), fault, number, *(values or [0] * 41)])

@@ -132,3 +132,18 @@ def said(event):
     if name in ("begun", "refused"):
         values[-1:] = ["dropped"] if values[-1] else []
     return " ".join(map(str, [name, *values]))
+
+
+def listed(scope, data):
+    """The rows of a listing: lines of system 0, 8-bit, two bytes a word."""
+    reader, room, rows, size = Reader(scope, 0, 8), [0] * ROOM, [], 2 * scope.systems[0][0]
+    for at in range(0, len(data), size):
+        part = data[at : at + size]
+        if len(part) < size:
+            return [*rows, "refused 1"]
+        line = [part[i] | part[i + 1] << 8 for i in range(0, len(part), 2)]
+        event = ("",)
+        while event[0] not in ("end", "refused"):
+            event = reader.read(line, room)
+            rows.append(said(event))
+    return rows

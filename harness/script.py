@@ -5,6 +5,7 @@
 import sys
 
 import courses
+import edges
 import lines
 import put
 from book import ROOM, SOURCE, TO, Book, whole
@@ -293,7 +294,8 @@ def script(scope):
     book = Book(scope)
     for part in drops, long_blocks, phases, mixes, fixed, fixed_later, jumps, refusals, unfit, impossible:
         part(book)
-    for part in lines.PARTS + courses.PARTS + put.PARTS:
+    # A new part stands behind all others, so that the steps and rows there are stay as they are.
+    for part in lines.PARTS + courses.PARTS + put.PARTS + edges.PARTS:
         part(book)
     return "".join(f"{step}\n" for step in book.steps)
 

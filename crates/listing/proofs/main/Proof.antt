@@ -1,19 +1,25 @@
 -- `listing::main` meets its contract. Assumes nothing.
+use mathlib.Core.Path.{_≡_, refl, sym, subst}
+use lib.ListN.{length}
+use Rattle.listing.specs.Lines.{Between}
 use borrow.Author.Needs.{needs}
 use Rattle.listing.proofs.main.Statement.{statement}
 use Rattle.listing.proofs.main.Tie as tie
 
 abbrev Inv-loop : tie.InvT-loop
-Inv-loop room₀ course₀ turns₀ room course turns = Unit {0}
+Inv-loop room₀ text₀ kept₀ turns₀ room text kept turns = (length text ≡ 69216) × Between (kept .state)
 
 abbrev μ-loop : tie.MeasureT-loop
-μ-loop room₀ course₀ turns₀ room course turns = turns
+μ-loop room₀ text₀ kept₀ turns₀ room text kept turns = turns
 
 fresh-reader-requires : tie.Need-fresh-reader-requires Inv-loop μ-loop
 fresh-reader-requires c κs = search needs
 
 loop-holds : tie.Need-loop-holds Inv-loop μ-loop
-loop-holds c = search needs
+loop-holds c = (search needs, subst Between (sym (c .fresh-reader .ensures)) (record { zeroth = refl; shut = refl }))
+
+slice-aggregate-next-line : tie.Need-slice-aggregate-next-line Inv-loop μ-loop
+slice-aggregate-next-line c = search needs
 
 next-line-requires : tie.Need-next-line-requires Inv-loop μ-loop
 next-line-requires c κs = search needs
@@ -25,7 +31,7 @@ loop-less : tie.Need-loop-less Inv-loop μ-loop
 loop-less c = search needs
 
 loop-again : tie.Need-loop-again Inv-loop μ-loop
-loop-again c = search needs
+loop-again c = (search needs, c .before .next-line .ensures (c .before .before .before .before .before .before .loop .inv .1))
 
 returns : tie.Need-returns Inv-loop μ-loop
 returns c = search needs
@@ -41,6 +47,7 @@ main-spec =
     μ-loop
     fresh-reader-requires
     loop-holds
+    slice-aggregate-next-line
     next-line-requires
     sub-turns
     loop-less

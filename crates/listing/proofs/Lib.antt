@@ -1,0 +1,4 @@
+pub mod TextLaws
+pub mod LineLaws
+pub mod BetweenLaws
+pub mod LoopLaws

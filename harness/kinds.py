@@ -1,0 +1,73 @@
+"""Kinds of rows at edges, by which enough.py asks for the cases of edges.py: what a step has met beside its answer."""
+from writer import Writer
+
+EDGE = 0x300  # the first word above data form: B9 and B8 are both 1
+TO_0 = {1: "aai", 3: "flag"}  # settings by their index
+
+
+def of_line(scope, system, mode, line, fault):
+    """Where a line that fits has the word 300h, and the answer."""
+    if not scope.fits(system, mode, line):
+        return
+    length, payload, _ = scope.systems[system]
+    if EDGE in line[4:57]:
+        yield "300h in a header", system, fault
+    elif EDGE in line[length - payload :]:
+        yield "300h in an area", mode, fault
+
+
+def to_0(old, new):
+    """The one setting that is changed, where it was 1 and is 0."""
+    changed = [k for k, (a, b) in enumerate(zip(old, new)) if a != b]
+    if len(changed) == 1 and changed[0] in TO_0 and (old[changed[0]], new[changed[0]]) == (1, 0):
+        yield TO_0[changed[0]]
+
+
+def of_opening(before, number, values, given):
+    """An unfinished block whose next line has a setting at 0; number 0, which alone would be 9."""
+    if before.rest:
+        yield from (("opened to 0", name, before.mode, given) for name in to_0(before.settings, values))
+    if number == 0:
+        yield "opened with number 0", before.mode, given
+
+
+def of_rest(call, before, given):
+    """What cannot be of an unfinished block, where nothing else is wrong with the state."""
+    if before.rest is None or given == 1:
+        return
+    other = Writer(before.scope, before.system, before.mode)
+    other.last, other.settings, other.place = before.last, before.settings, before.place
+    other.rest = (before.rest[0], 10, 5)
+    if other.impossible():
+        return
+    _, n, laid = before.rest
+    causes = {"n 16,385": n == 16385, "laid 0": laid == 0, "laid n + 7": laid == n + 7}
+    yield from (("rest", name, call, before.mode, given) for name, holds in causes.items() if holds)
+
+
+def of_begun(mode, old, new, event):
+    """A line begun with an open block and a setting at 0."""
+    if event[0] == "begun":
+        yield from (("begun to 0", name, mode, event[-1]) for name in to_0(old, new))
+
+
+def of_phase(phase, impossible):
+    """What cannot be of a reader's data phase, and what `is_impossible` says."""
+    if phase[0] != "data":
+        return
+    announced, collected = phase[2:]
+    causes = {"announced": announced == 16385, "collected": collected == 16385, "above the count": 0 < announced < collected}
+    yield from (("phase", name, impossible) for name, holds in causes.items() if holds)
+
+
+def asked(scope):
+    """What has to have been met."""
+    yield from (("300h in a header", system, 5) for system in scope.systems)
+    yield from (("300h in an area", mode, 15) for mode in (8, 9))
+    for mode in 8, 9:
+        yield from (("opened to 0", name, mode, 20) for name in TO_0.values())
+        yield from (("begun to 0", name, mode, True) for name in TO_0.values())
+        yield "opened with number 0", mode, 2
+        yield from (("rest", why, call, mode, 2) for why in ("n 16,385", "laid 0", "laid n + 7") for call in ("opened", "added", "closed"))
+    yield from (("phase", why, 1) for why in ("announced", "collected", "above the count"))
+    yield "impossible", 1, 1
