@@ -74,10 +74,11 @@ def writer_rests(book):
             book.fresh(system, mode)
             for k, rest in enumerate(RESTS):
                 numbers = state(book, place=(k % 2, 5 * (k % 2)), five=(1, 7, *rest, 0))
-                for call in ("Open", book.length, 0, 1), ("Open", book.length, 21, 1), ("Add", book.length, 7, rest[0], 5, 99999, 0), ("Close", book.length):
-                    book.head(numbers[SETTINGS:])
+                book.head(numbers[SETTINGS:])
+                opens = [lambda n=n: book.step("Open", book.length, n, 1) for n in (0, 21)]
+                for call in *opens, lambda: book.add(7, rest[0], 5), book.end:
                     book.step("Put", WRITER, 0, *numbers)
-                    book.step(*call)
+                    call()
                 book.step("Impossible")
 
 
