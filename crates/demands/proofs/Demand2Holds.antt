@@ -166,7 +166,7 @@ given-back : (lines : ℕ) (before : Last) (gone : Bool) (fs : List Fate) (ss : 
     → hs ≡ givenBack lines before ss
 unfolding givenBack headKept tailFates
 given-back lines before gone fs _ _ nothing-more g e = refl
-given-back lines before gone _ _ _ (one-kept {fs = fs} {s = s} {ss = ss} {hs = hs} dropped none-dropped more) g e =
+given-back lines _ gone _ _ _ (one-kept {before = before} {fs = fs} {s = s} {ss = ss} {hs = hs} dropped none-dropped more) g e =
     let rest = given-back lines (Number (s .number)) false fs ss hs more refl (ap tailFates e) in
     ap₂ (λ (b : Bool) (l : List Heard). is-begun (s .number) (jumpFrom lines before (s .number)) b (s .settings) ∷ (l ++ (is-end ∷ hs))) (none-dropped g) (kept-blocks (s .blocks))
     ∙ ap (λ (l : List Heard). is-begun (s .number) (jumpFrom lines before (s .number)) false (s .settings) ∷ (map (λ (b : Complete). is-block (b .block)) (s .blocks) ++ (is-end ∷ l))) rest

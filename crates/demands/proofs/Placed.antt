@@ -89,7 +89,7 @@ module _ (system mode : ℕ) where
   Somewhere rs d p = StandsOn system (p .words) rs (p .line) ⊎ OnOpen d p
 
   -- rs: the lines closed so far
-  record Held (rs : List Sent) (d : Desk) : Type 0 where
+  record Standing (rs : List Sent) (d : Desk) : Type 0 where
     many : length rs ≡ d .closed
     owed : All (Somewhere rs d) (d .pieces)
     finished : isAt (d .writer .place) ≡ true → All (λ (b : Complete). All (Somewhere rs d) (b .pieces)) (d .now .blocks)
@@ -102,7 +102,7 @@ module _ (system mode : ℕ) where
       (λ b. all-by (Somewhere rs d) (Somewhere rs′ d′) f (b .pieces)) bs h
 
   Shown : Desk → List Call → List Sent → Type 0
-  Shown d cs ss = (rs : List Sent) → Held rs d → All (IsPlaced system (rs ++ ss)) (blocksOf ss)
+  Shown d cs ss = (rs : List Sent) → Standing rs d → All (IsPlaced system (rs ++ ss)) (blocksOf ss)
 
   -- ---- an accepted addition: the piece laid now, and those before
   module _ (d : Desk) (kind : ℕ) (vs : List ℕ) (clear : addFault (d .writer) (length (d .now .words)) kind vs ≡ 0) (d′ : Desk)
