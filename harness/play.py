@@ -152,6 +152,7 @@ class Play:
         self.tell_call("closed", before, *self.lent(length, Writer.close))
 
     def big_room(self, index, count, kind, seed):
+        count = min(count, len(self.room) - index)
         self.room[index : index + count] = made_words(kind, count, seed)
 
     def big_add(self, length, kind, count):
