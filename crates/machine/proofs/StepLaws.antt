@@ -94,3 +94,10 @@ unfolding stepOf
 step-numbers room p w =
     subst (λ (n : ℕ). (metNumbers (stepBy room p (classOf w) (w % 256) .met) ≡ metBy room (phaseNumbers p) n (w % 256))
     × (phaseNumbers (stepBy room p (classOf w) (w % 256) .phase) ≡ phaseBy room (phaseNumbers p) n (w % 256))) (class-numbers w) (by-class room p (classOf w) (w % 256))
+
+pub step-numbered : (room : ℕ) (p : Phase) (w : ℕ) (s : Step) → s ≡ stepOf room p w
+    → (s ≡ stepOf room p w) × (metNumbers (s .met) ≡ metBy room (phaseNumbers p) (classNumberOf w) (w % 256))
+    × (phaseNumbers (s .phase) ≡ phaseBy room (phaseNumbers p) (classNumberOf w) (w % 256))
+step-numbered room p w s e =
+    let n = step-numbers room p w in
+    (e, ap (λ (x : Step). metNumbers (x .met)) e ∙ n .0, ap (λ (x : Step). phaseNumbers (x .phase)) e ∙ n .1)
