@@ -4,6 +4,7 @@ use mathlib.Core.Path.{_≡_, refl, sym, ap, ap₂, _∙_}
 use mathlib.Core.Bool.{Bool, true, false, _&&_, not}
 use mathlib.Core.List.{List, [], _∷_, map}
 use Prim.Native.Nat.{ℕ, zero, suc}
+use native.Mathlib.Omega.{arith}
 use lib.Dec.{eqb, eqb·suc-zero}
 use lib.IntN.{ℤ, pos}
 use lib.ListN.{length}
@@ -61,7 +62,7 @@ start-by : (st : Reader) (line : List ℕ) (n : ℕ) → eventNumbers (starts st
 start-by st line zero =
     ap (λ (x : Told). eventNumbers (x .event)) (begins-by st line 0 refl) ∙ begun-numbers st line ∙ sym (pick-true _ _ refl)
 start-by st line (suc n) =
-    ap (λ (x : Told). eventNumbers (x .event)) (refuses-by st line (suc n) (λ e. absurd (suc-not-zero n e))) ∙ ap (refusedBy (suc n)) (open-is (st .phase)) ∙ sym (pick-false _ _ (eqb·suc-zero n))
+    ap (λ (x : Told). eventNumbers (x .event)) (refuses-by st line (suc n) (λ e. omega arith)) ∙ ap (refusedBy (suc n)) (open-is (st .phase)) ∙ sym (pick-false _ _ (eqb·suc-zero n))
 
 pub start-numbers : (st : Reader) (line : List ℕ) → eventNumbers (starts st (checkedOf (st .system) (st .mode) line) .event) ≡ startBy st line
 unfolding checkedOf startBy
