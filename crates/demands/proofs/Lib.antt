@@ -27,6 +27,7 @@ pub mod EndLine
 pub mod QuietLine
 pub mod Follow
 pub mod Notices
+pub mod Demand1Holds
 pub mod Demand2Holds
 pub mod FrameCourse
 pub mod FrameNeeded
