@@ -40,8 +40,8 @@ fits-by : (a b : ℕ) → eqb (min a b) b ≡ leb b a
 fits-by a b = go (leb b a) refl
   where
     go : (t : Bool) → leb b a ≡ t → eqb (min a b) b ≡ leb b a
-    go true e = let l = leb-true b a e in eq-eqb _ _ (omega (arith, l)) ∙ sym e
-    go false e = let l = leb-false b a e in ne-eqb _ _ (λ z. omega (arith, l, z)) ∙ sym e
+    go true e = let l = leb-true b a e in eq-eqb (min a b) b (omega (arith, l)) ∙ sym e
+    go false e = let l = leb-false b a e in ne-eqb (min a b) b (λ z. omega (arith, l, z)) ∙ sym e
 
 all-by : (t : Bool) → laidNumbers (pick t Finished Unfinished) ≡ 0 ∷ pick t 1 0 ∷ []
 unfolding pick
