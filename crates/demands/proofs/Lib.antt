@@ -32,6 +32,7 @@ pub mod Unrefused
 pub mod FixedLines
 pub mod Writable
 pub mod Closing
+pub mod Demand1Holds
 pub mod Demand2Holds
 pub mod FrameCourse
 pub mod FrameNeeded

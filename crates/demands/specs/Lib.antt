@@ -4,5 +4,6 @@ pub mod Hearing
 pub mod Damage
 pub mod Lent
 pub mod Writable
+pub mod Demand1
 pub mod Demand2
 pub mod Demand3

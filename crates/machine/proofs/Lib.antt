@@ -1,3 +1,4 @@
+pub mod StepLaws
 pub mod PhaseLaws
 pub mod WalkLaws
 pub mod RunLaws

@@ -1,5 +1,6 @@
 pub mod Phases
 pub mod Machine
+pub mod StepNumbers
 pub mod Walk
 pub mod Runs
 pub mod Places

@@ -22,12 +22,12 @@ unfolding readingIn
 by-place c st line room p e at = pick-true _ _ (eq-eqb _ 0 e) ∙ ap (λ (x : Place). readFrom x st line room) at
 
 -- what the call tells of the fault that the line check found
-begins-by : (st : Reader) (line : List ℕ) (n : ℕ) → n ≡ 0 → starts st (checkedFrom n line) ≡ begun st (numberOf line) (settingsOf line)
+pub begins-by : (st : Reader) (line : List ℕ) (n : ℕ) → n ≡ 0 → starts st (checkedFrom n line) ≡ begun st (numberOf line) (settingsOf line)
 unfolding starts
 begins-by st line zero e = pick-true _ _ refl
 begins-by st line (suc n) e = absurd (omega arith)
 
-refuses-by : (st : Reader) (line : List ℕ) (n : ℕ) → (n ≡ 0 → ⊥) → starts st (checkedFrom n line) ≡ refused st n
+pub refuses-by : (st : Reader) (line : List ℕ) (n : ℕ) → (n ≡ 0 → ⊥) → starts st (checkedFrom n line) ≡ refused st n
 unfolding starts
 refuses-by st line zero h = absurd (h refl)
 refuses-by st line (suc n) h = pick-false _ _ (eqb·suc-zero n)

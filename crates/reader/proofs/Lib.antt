@@ -4,6 +4,7 @@ pub mod SignedLaws
 pub mod JumpLaws
 pub mod EventLaws
 pub mod Accepts
+pub mod NumberLaws
 pub mod ReadLaws
 pub mod Ends
 pub mod AtCapacity

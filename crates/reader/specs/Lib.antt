@@ -2,4 +2,5 @@ pub mod Jump
 pub mod State
 pub mod Events
 pub mod Reading
+pub mod Numbers
 pub mod Lending

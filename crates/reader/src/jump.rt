@@ -3,7 +3,8 @@ use course::Last;
 ghost use mathlib.Core.Path.{_≡_};
 ghost use lib.IntN.{pos, negℤ, subℕ};
 ghost use Rattle.lists.specs.Tests.{pick};
-ghost use Rattle.reader.specs.Jump.{folded, jumpFrom, isZero};
+ghost use Rattle.reader.specs.Jump.{folded, jumpFrom, isZero, jumpNumbers};
+ghost use Rattle.reader.specs.Numbers.{jumpBy};
 
 // With no last number the jump is unknown.
 pub enum Jump {
@@ -44,9 +45,9 @@ fn folded_less(lines: u16, number: u16, expected: u16) -> i32
     folded_by(lines, false, number - expected)
 }
 
-// The jump to a line of that number.
+// The jump to a line of that number; and its number, or none.
 pub fn jump_from(lines: u16, last: Last, number: u16) -> Jump
-    ensures { λ r. ⌜ r ≡ jumpFrom lines last number ⌝ }
+    ensures { λ r. ⌜ (r ≡ jumpFrom lines last number) × (jumpNumbers r ≡ jumpBy lines last number) ⌝ }
 {
     match last {
         Last::Unknown => Jump::Unknown,

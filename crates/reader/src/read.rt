@@ -24,6 +24,8 @@ ghost use Rattle.line.specs.Fixed.{sizeOf};
 ghost use Rattle.course.specs.Course.{blocksEnd};
 ghost use Rattle.course.specs.declared.Place.the-variants.{At};
 ghost use Rattle.machine.specs.Walk.{leaves};
+ghost use Rattle.reader.specs.Events.{eventNumbers};
+ghost use Rattle.reader.specs.Numbers.{readBy};
 ghost use Rattle.reader.specs.Reading.{call, walkFrom, toldBy, goesFrom, readFaultIn, readingIn, reading};
 
 // What a call asks before it reads: the lower of 1 and 2 that holds, or 0; and then where blocks end in the line, and the size of a fixed
@@ -149,9 +151,10 @@ fn read_in(capacity: usize, st: Reader, line: &[u16], room: &mut [u16]) -> Told
     }
 }
 
-// A reading call.
+// A reading call; and the numbers of what it reports, by the state, the line and the room.
 pub fn read(st: Reader, line: &[u16], room: &mut [u16]) -> Told
-    ensures { λ r. ⌜ call r (now (room .exit)) ≡ reading st (now (line .entry)) (now (room .entry)) ⌝ }
+    ensures { λ r. ⌜ (call r (now (room .exit)) ≡ reading st (now (line .entry)) (now (room .entry)))
+        × (eventNumbers (r .event) ≡ readBy st (now (line .entry)) (now (room .entry))) ⌝ }
 {
     read_in(state::CAPACITY, st, line, room)
 }

@@ -7,7 +7,7 @@ use lib.Dec.{T, eqb}
 use borrow.Author.Tests.{eqb-true}
 use Rattle.lists.specs.Tests.{pick}
 use Rattle.words.specs.Forms.{isByte, isData}
-use Rattle.words.specs.Class.{classOf, classNumber, separator, endCode, isCode}
+use Rattle.words.specs.Class.{classOf, classNumber, classNumberOf, separator, endCode, isCode}
 use Rattle.words.proofs.FormLaws.{byte-data}
 use Rattle.words.specs.declared.class.Class.{Class}
 use Rattle.words.specs.declared.class.Class.the-variants.{Byte, Other, Separator, Ending, Illegal}
@@ -27,6 +27,23 @@ named-back Illegal = refl
 
 pub class-injective : (a b : Class) → classNumber a ≡ classNumber b → a ≡ b
 class-injective a b e = sym (named-back a) ∙ ap named e ∙ named-back b
+
+-- ---- the number of a word's class
+number-by : (b d s e : Bool) → classNumber (pick b Byte (pick d Other (pick s Separator (pick e Ending Illegal)))) ≡ pick b 1 (pick d 2 (pick s 3 (pick e 4 5)))
+unfolding pick
+number-by true d s e = refl
+number-by false true s e = refl
+number-by false false true e = refl
+number-by false false false true = refl
+number-by false false false false = refl
+
+pub class-numbers : (w : ℕ) → classNumber (classOf w) ≡ classNumberOf w
+unfolding classOf classNumberOf
+class-numbers w = number-by (isByte w) (isData w) (eqb w 0x309) (eqb w 0x30a)
+
+-- a class that is the word's has its number
+pub class-numbered : (w : ℕ) (k : Class) → k ≡ classOf w → (k ≡ classOf w) × (classNumber k ≡ classNumberOf w)
+class-numbered w k e = (e, ap classNumber e ∙ class-numbers w)
 
 -- ---- the class by the tests, in their order
 module _ (w : ℕ) where

@@ -28,6 +28,10 @@ classNumber Separator = 3
 classNumber Ending = 4
 classNumber Illegal = 5
 
+-- the number of a word's class, by the forms and the two codes alone
+unfoldable pub classNumberOf : ℕ → ℕ
+classNumberOf w = pick (isByte w) 1 (pick (isData w) 2 (pick (eqb w 0x309) 3 (pick (eqb w 0x30a) 4 5)))
+
 -- 309h or 30Ah
 abbrev pub isCode : Class → Bool
 isCode Byte = false

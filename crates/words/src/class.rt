@@ -1,7 +1,7 @@
 // What a word of the payload is. Every decision about a payload word goes through class_of or is_code.
 use crate::forms;
 ghost use mathlib.Core.Path.{_≡_};
-ghost use Rattle.words.specs.Class.{classOf, isCode};
+ghost use Rattle.words.specs.Class.{classOf, classNumber, classNumberOf, isCode};
 
 // The separator of a block, and its end code.
 pub const SEPARATOR: u16 = 0x309;
@@ -16,9 +16,9 @@ pub enum Class {
     Illegal, // every other number, 400h and above too
 }
 
-// The class of a word.
+// The class of a word; and its number is that of the forms.
 pub fn class_of(w: u16) -> Class
-    ensures { λ r. ⌜ r ≡ classOf w ⌝ }
+    ensures { λ r. ⌜ (r ≡ classOf w) × (classNumber r ≡ classNumberOf w) ⌝ }
 {
     if forms::is_byte(w) {
         return Class::Byte;

@@ -11,4 +11,5 @@ pub mod Writing
 pub mod Stays
 pub mod Pieces
 pub mod AnswerLaws
+pub mod NumberLaws
 pub mod Samples

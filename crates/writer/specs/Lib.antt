@@ -4,5 +4,6 @@ pub mod Cuts
 pub mod Answers
 pub mod Opening
 pub mod Adding
+pub mod Numbers
 pub mod Closing
 pub mod Course

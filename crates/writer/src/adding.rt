@@ -15,7 +15,8 @@ ghost use lib.ListN.{length};
 ghost use Rattle.lists.specs.Tests.{pick};
 ghost use Rattle.lists.specs.Lists.{each};
 ghost use Rattle.line.specs.Fixed.{isVariable, sizeOf};
-ghost use Rattle.writer.specs.Answers.{added};
+ghost use Rattle.writer.specs.Answers.{laidNumbers, added};
+ghost use Rattle.writer.specs.Numbers.{allFits, laidBy};
 ghost use Rattle.writer.specs.Adding.{valued, illShaped, isFull, isOther, addFault, adding};
 
 // What adding leaves beside the line.
@@ -195,9 +196,10 @@ fn lay_part(w: Writer, kind: u16, values: &[u16], line: &mut [u16]) -> Addition
     }
 }
 
-// Adds a block, or goes on with the unfinished one.
+// Adds a block, or goes on with the unfinished one; and the numbers of its answer, by the fault and by what fits.
 pub fn add_block(w: Writer, kind: u16, values: &[u16], line: &mut [u16]) -> Addition
-    ensures { λ r. ⌜ added (r .answer) (r .state) (now (line .exit)) ≡ adding w (now (line .entry)) kind (now (values .entry)) ⌝ }
+    ensures { λ r. ⌜ (added (r .answer) (r .state) (now (line .exit)) ≡ adding w (now (line .entry)) kind (now (values .entry)))
+        × (laidNumbers (r .answer) ≡ laidBy (addFault w (length (now (line .entry))) kind (now (values .entry))) (allFits w kind (now (values .entry)))) ⌝ }
 {
     let fault = add_fault(w, line.len(), kind, values);
     if fault != 0 {

@@ -11,7 +11,8 @@ use line::systems::System;
 ghost use mathlib.Core.Path.{_≡_};
 ghost use Prim.Native.Nat.{_+_, _≤_};
 ghost use lib.ListN.{length};
-ghost use Rattle.writer.specs.Answers.{left};
+ghost use Rattle.writer.specs.Answers.{answerNumbers, left};
+ghost use Rattle.writer.specs.Numbers.{answersBy};
 ghost use Rattle.writer.specs.Closing.{closeFault, sealed, closing};
 
 // The lowest number whose condition holds, or 0: from the last condition to the first.
@@ -41,9 +42,10 @@ fn seal(s: System, flag: u8, line: &mut [u16])
     }
 }
 
-// Closes the line.
+// Closes the line; and the numbers of its answer, by the fault.
 pub fn close_line(w: Writer, line: &mut [u16]) -> Reply
-    ensures { λ r. ⌜ left (r .answer) (r .state) (now (line .exit)) ≡ closing w (now (line .entry)) ⌝ }
+    ensures { λ r. ⌜ (left (r .answer) (r .state) (now (line .exit)) ≡ closing w (now (line .entry)))
+        × (answerNumbers (r .answer) ≡ answersBy (closeFault w (length (now (line .entry))))) ⌝ }
 {
     let fault = close_fault(w, line.len());
     if fault != 0 {

@@ -18,7 +18,8 @@ ghost use Rattle.line.specs.Systems.{systemOf};
 ghost use Rattle.line.specs.Timing.{timingWords};
 ghost use Rattle.line.specs.Header.{headerWords};
 ghost use Rattle.line.specs.Layout.{gapWords};
-ghost use Rattle.writer.specs.Answers.{left};
+ghost use Rattle.writer.specs.Answers.{answerNumbers, left};
+ghost use Rattle.writer.specs.Numbers.{answersBy};
 ghost use Rattle.writer.specs.Opening.{isNext, openBlocked, openFault, openState, openWords, opening};
 
 // What opening and closing leave beside the line.
@@ -104,9 +105,10 @@ fn put_line(system: u8, f: bool, v: bool, n: u16, t: Settings, out: &mut [u16])
     put_from_header(n, t, gap, f, v, &mut out[4..]);
 }
 
-// Opens a line.
+// Opens a line; and the numbers of its answer, by the fault.
 pub fn open_line(w: Writer, f: bool, v: bool, n: u16, t: Settings, line: &mut [u16]) -> Reply
-    ensures { λ r. ⌜ left (r .answer) (r .state) (now (line .exit)) ≡ opening w f v n t (now (line .entry)) ⌝ }
+    ensures { λ r. ⌜ (left (r .answer) (r .state) (now (line .exit)) ≡ opening w f v n t (now (line .entry)))
+        × (answerNumbers (r .answer) ≡ answersBy (openFault w n t (length (now (line .entry))))) ⌝ }
 {
     let fault = open_fault(w, n, t, line.len());
     if fault != 0 {

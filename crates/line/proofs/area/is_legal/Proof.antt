@@ -27,27 +27,27 @@ enum-told-5 c = search needs
 returns : tie.Need-returns
 returns c =
     let a = c .before .before .before .args in
-    sym (legal-class (a .mode) (a .variable) (a .w) ∙ ap (allowed (eqb (a .mode) 8) (a .variable)) (sym (c .before .before .class-of .ensures) ∙ c .enum-told .given .1))
+    sym (legal-class (a .mode) (a .variable) (a .w) ∙ ap (allowed (eqb (a .mode) 8) (a .variable)) (sym (c .before .before .class-of .ensures .0) ∙ c .enum-told .given .1))
 
 returns-2 : tie.Need-returns-2
 returns-2 c =
     let a = c .before .before .before .args in
-    sym (legal-class (a .mode) (a .variable) (a .w) ∙ ap (allowed (eqb (a .mode) 8) (a .variable)) (sym (c .before .before .class-of .ensures) ∙ c .enum-told2 .given .1))
+    sym (legal-class (a .mode) (a .variable) (a .w) ∙ ap (allowed (eqb (a .mode) 8) (a .variable)) (sym (c .before .before .class-of .ensures .0) ∙ c .enum-told2 .given .1))
 
 returns-3 : tie.Need-returns-3
 returns-3 c =
     let a = c .before .before .before .args in
-    sym (legal-class (a .mode) (a .variable) (a .w) ∙ ap (allowed (eqb (a .mode) 8) (a .variable)) (sym (c .before .before .class-of .ensures) ∙ c .enum-told3 .given .1))
+    sym (legal-class (a .mode) (a .variable) (a .w) ∙ ap (allowed (eqb (a .mode) 8) (a .variable)) (sym (c .before .before .class-of .ensures .0) ∙ c .enum-told3 .given .1))
 
 returns-4 : tie.Need-returns-4
 returns-4 c =
     let a = c .before .before .before .args in
-    sym (legal-class (a .mode) (a .variable) (a .w) ∙ ap (allowed (eqb (a .mode) 8) (a .variable)) (sym (c .before .before .class-of .ensures) ∙ c .enum-told4 .given .1))
+    sym (legal-class (a .mode) (a .variable) (a .w) ∙ ap (allowed (eqb (a .mode) 8) (a .variable)) (sym (c .before .before .class-of .ensures .0) ∙ c .enum-told4 .given .1))
 
 returns-5 : tie.Need-returns-5
 returns-5 c =
     let a = c .before .before .before .args in
-    sym (legal-class (a .mode) (a .variable) (a .w) ∙ ap (allowed (eqb (a .mode) 8) (a .variable)) (sym (c .before .before .class-of .ensures) ∙ c .enum-told5 .given .1))
+    sym (legal-class (a .mode) (a .variable) (a .w) ∙ ap (allowed (eqb (a .mode) 8) (a .variable)) (sym (c .before .before .class-of .ensures .0) ∙ c .enum-told5 .given .1))
 
 pub is-legal-spec : {M : Type 1} → statement M
 is-legal-spec =

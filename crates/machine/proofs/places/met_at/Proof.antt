@@ -21,7 +21,7 @@ returns : tie.Need-returns
 returns c =
     let m = c .before .before .before in
     let a = m .before .args in
-    sym (met-by (a .w) (a .n) Byte (sym (m .class-of .ensures) ∙ c .before .enum-told .given .1) ∙ ap (λ (k : ℕ). placeMet Byte k (a .n)) (c .if1 .taken))
+    sym (met-by (a .w) (a .n) Byte (sym (m .class-of .ensures .0) ∙ c .before .enum-told .given .1) ∙ ap (λ (k : ℕ). placeMet Byte k (a .n)) (c .if1 .taken))
 
 enum-told-2 : tie.Need-enum-told-2
 enum-told-2 c = search needs
@@ -39,19 +39,19 @@ returns-2 : tie.Need-returns-2
 returns-2 c =
     let m = c .before .before .before in
     let a = m .before .args in
-    sym (met-by (a .w) (a .n) Byte (sym (m .class-of .ensures) ∙ c .before .enum-told .given .1) ∙ met-whole _ (a .n) (c .if1 .left))
+    sym (met-by (a .w) (a .n) Byte (sym (m .class-of .ensures .0) ∙ c .before .enum-told .given .1) ∙ met-whole _ (a .n) (c .if1 .left))
 
 returns-3 : tie.Need-returns-3
-returns-3 c = sym (met-by _ _ Other (sym (c .before .before .class-of .ensures) ∙ c .enum-told2 .given .1))
+returns-3 c = sym (met-by _ _ Other (sym (c .before .before .class-of .ensures .0) ∙ c .enum-told2 .given .1))
 
 returns-4 : tie.Need-returns-4
-returns-4 c = sym (met-by _ _ Separator (sym (c .before .before .class-of .ensures) ∙ c .enum-told3 .given .1))
+returns-4 c = sym (met-by _ _ Separator (sym (c .before .before .class-of .ensures .0) ∙ c .enum-told3 .given .1))
 
 returns-5 : tie.Need-returns-5
-returns-5 c = sym (met-by _ _ Ending (sym (c .before .before .class-of .ensures) ∙ c .enum-told4 .given .1))
+returns-5 c = sym (met-by _ _ Ending (sym (c .before .before .class-of .ensures .0) ∙ c .enum-told4 .given .1))
 
 returns-6 : tie.Need-returns-6
-returns-6 c = sym (met-by _ _ Illegal (sym (c .before .before .class-of .ensures) ∙ c .enum-told5 .given .1))
+returns-6 c = sym (met-by _ _ Illegal (sym (c .before .before .class-of .ensures .0) ∙ c .enum-told5 .given .1))
 
 pub met-at-spec : {M : Type 1} → statement M
 met-at-spec =

@@ -23,7 +23,7 @@ put-value-requires c κs = λ e.
     let s = c .before .before .before in
     let g = s .before .before .args in
     rw (c .before .before .collected-of .ensures)
-    (step-steady (length (g .room .now)) (g .phase) (g .w) .inside (sym (ap (λ (x : Step). x .keeps) (s .step-word .ensures)) ∙ e))
+    (step-steady (length (g .room .now)) (g .phase) (g .w) .inside (sym (ap (λ (x : Step). x .keeps) (s .step-word .ensures .0)) ∙ e))
 
 same-length : tie.Need-same-length
 same-length c = search needs
@@ -33,7 +33,7 @@ returns c =
     let v = c .before .before .before .before in
     let s = v .before .before in
     let g = s .before .before .args in (
-      s .step-word .ensures,
+      s .step-word .ensures .0,
       c .before .before .put-value .ensures
           ∙ ap₂ (λ (m x : ℕ). stored (s .step-word .result .keeps) m x (g .room .now)) (v .before .collected-of .ensures) (v .value-of .ensures),
     )

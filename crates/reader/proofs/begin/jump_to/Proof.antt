@@ -10,7 +10,7 @@ jump-from-requires : tie.Need-jump-from-requires
 jump-from-requires c κs = search needs
 
 returns : tie.Need-returns
-returns c = simp (c .jump-from .ensures, c .before .system-of .ensures)
+returns c = simp (c .jump-from .ensures .0, c .before .system-of .ensures)
 
 pub jump-to-spec : {M : Type 1} → statement M
 jump-to-spec = tie.close (tie.spec system-of-requires jump-from-requires returns)

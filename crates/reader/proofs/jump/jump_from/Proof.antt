@@ -7,6 +7,7 @@ use mir.Val.{toZ, ofZ}
 use Rattle.course.specs.declared.Last.{Last}
 use Rattle.reader.specs.declared.jump.Jump.the-variants.{Known}
 use Rattle.reader.specs.Jump.{folded, jumpFrom}
+use Rattle.reader.proofs.NumberLaws.{jump-numbered}
 use borrow.Author.Needs.{needs}
 use Rattle.reader.proofs.jump.jump_from.Statement.{statement}
 use Rattle.reader.proofs.jump.jump_from.Tie as tie
@@ -30,7 +31,7 @@ returns-2 : tie.Need-returns-2
 returns-2 c =
     let a = c .before .before .before .before .before .args in
     let e : toZ w32 (ofZ w32 (c .folded-less .result)) ≡ c .folded-less .result = search needs in
-    ap Known (e ∙ c .folded-less .ensures ∙ ap (λ (k : ℕ). folded (a .lines) (subℕ (a .number) k)) (c .before .next-number .ensures)) ∙ sym (ap (λ (x : Last). jumpFrom (a .lines) x (a .number)) (c .before .before .before .last .given .1))
+    jump-numbered (a .lines) (a .last) (a .number) _ (ap Known (e ∙ c .folded-less .ensures ∙ ap (λ (k : ℕ). folded (a .lines) (subℕ (a .number) k)) (c .before .next-number .ensures)) ∙ sym (ap (λ (x : Last). jumpFrom (a .lines) x (a .number)) (c .before .before .before .last .given .1)))
 
 pub jump-from-spec : {M : Type 1} → statement M
 jump-from-spec =

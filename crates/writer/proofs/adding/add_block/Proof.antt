@@ -3,6 +3,7 @@ use mathlib.Core.Path.{_≡_, sym, _∙_}
 use lib.ListN.{length}
 use Rattle.writer.specs.Adding.{addFault}
 use Rattle.writer.proofs.Calls.{add-refused}
+use Rattle.writer.proofs.NumberLaws.{adds-numbered}
 use borrow.Author.Needs.{needs}
 use Rattle.writer.proofs.adding.add_block.Statement.{statement}
 use Rattle.writer.proofs.adding.add_block.Tie as tie
@@ -19,7 +20,8 @@ add-fault-requires c κs = search needs
 returns : tie.Need-returns
 returns c =
     let g = c .before .before .before .before .args in
-    add-refused (g .w) (g .line .now) (g .kind) (g .values .now) _ (c .before .add-fault .ensures) (c .if1 .taken)
+    adds-numbered (g .w) (g .line .now) (g .kind) (g .values .now) _
+    (add-refused (g .w) (g .line .now) (g .kind) (g .values .now) _ (c .before .add-fault .ensures) (c .if1 .taken))
 
 is-variable-requires : tie.Need-is-variable-requires
 is-variable-requires c κs = search needs
@@ -31,7 +33,7 @@ same-length : tie.Need-same-length
 same-length c = search needs
 
 returns-2 : tie.Need-returns-2
-returns-2 c = c .before .before .lay-part .ensures
+returns-2 c = adds-numbered _ _ _ _ _ (c .before .before .lay-part .ensures)
 
 lay-place-requires : tie.Need-lay-place-requires
 lay-place-requires c κs = let v = c .before .before in (clear v, sym (v .is-variable .ensures) ∙ c .before .if2 .left)
@@ -40,7 +42,7 @@ same-length-2 : tie.Need-same-length-2
 same-length-2 c = search needs
 
 returns-3 : tie.Need-returns-3
-returns-3 c = c .before .before .lay-place .ensures
+returns-3 c = adds-numbered _ _ _ _ _ (c .before .before .lay-place .ensures)
 
 pub add-block-spec : {M : Type 1} → statement M
 add-block-spec =

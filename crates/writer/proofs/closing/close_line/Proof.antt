@@ -6,6 +6,7 @@ use Rattle.line.specs.declared.systems.System.{System}
 use Rattle.writer.specs.Closing.{sealed}
 use Rattle.writer.proofs.Refusals.{can-close}
 use Rattle.writer.proofs.Calls.{close-refused, close-done}
+use Rattle.writer.proofs.NumberLaws.{closes-numbered}
 use borrow.Author.Needs.{needs}
 use Rattle.writer.proofs.closing.close_line.Statement.{statement}
 use Rattle.writer.proofs.closing.close_line.Tie as tie
@@ -16,7 +17,8 @@ close-fault-requires c κs = search needs
 returns : tie.Need-returns
 returns c =
     let a = c .before .before .before .args in
-    close-refused (a .w) (a .line .now) _ (c .before .close-fault .ensures) (c .if1 .taken)
+    closes-numbered (a .w) (a .line .now) _
+    (close-refused (a .w) (a .line .now) _ (c .before .close-fault .ensures) (c .if1 .taken))
 
 system-of-requires : tie.Need-system-of-requires
 system-of-requires c κs = search needs
@@ -34,8 +36,9 @@ same-length c = search needs
 returns-2 : tie.Need-returns-2
 returns-2 c =
     let a = c .before .before .before .before .before .before .before .before .before .args in
-    close-done (a .w) (a .line .now) _ (c .before .before .before .before .before .before .before .close-fault .ensures) (c .before .before .before .before .before .before .if1 .left) _
-    (c .before .before .seal .ensures ∙ ap (λ (s : System). sealed s (a .w .settings .flag) (a .line .now)) (c .before .before .before .before .before .system-of .ensures))
+    closes-numbered (a .w) (a .line .now) _
+    (close-done (a .w) (a .line .now) _ (c .before .before .before .before .before .before .before .close-fault .ensures) (c .before .before .before .before .before .before .if1 .left) _
+    (c .before .before .seal .ensures ∙ ap (λ (s : System). sealed s (a .w .settings .flag) (a .line .now)) (c .before .before .before .before .before .system-of .ensures)))
 
 pub close-line-spec : {M : Type 1} → statement M
 close-line-spec =

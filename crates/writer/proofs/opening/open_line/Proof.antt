@@ -2,6 +2,7 @@
 use mathlib.Core.Path.{sym, _∙_}
 use Rattle.writer.proofs.StateLaws.{open-fits, not-opened, opened}
 use Rattle.line.proofs.SystemLaws.{fitting}
+use Rattle.writer.proofs.NumberLaws.{opens-numbered}
 use borrow.Author.Needs.{needs}
 use Rattle.writer.proofs.opening.open_line.Statement.{statement}
 use Rattle.writer.proofs.opening.open_line.Tie as tie
@@ -13,7 +14,8 @@ returns : tie.Need-returns
 returns c =
     let a = c .before .before .before .args in
     let fault = c .before .open-fault in
-    not-opened (a .w) (a .f) (a .v) (a .n) (a .t) (a .line .now) (fault .result) (fault .ensures) (c .if1 .taken)
+    opens-numbered (a .w) (a .f) (a .v) (a .n) (a .t) (a .line .now) _
+    (not-opened (a .w) (a .f) (a .v) (a .n) (a .t) (a .line .now) (fault .result) (fault .ensures) (c .if1 .taken))
 
 put-line-requires : tie.Need-put-line-requires
 put-line-requires c κs =
@@ -29,7 +31,8 @@ returns-2 : tie.Need-returns-2
 returns-2 c =
     let a = c .before .before .before .before .before .before .before .args in
     let fault = c .before .before .before .before .before .open-fault in
-    opened (a .w) (a .f) (a .v) (a .n) (a .t) (a .line .now) _ (fault .result) (fault .ensures) (c .before .before .before .before .if1 .left) (c .before .before .put-line .ensures)
+    opens-numbered (a .w) (a .f) (a .v) (a .n) (a .t) (a .line .now) _
+    (opened (a .w) (a .f) (a .v) (a .n) (a .t) (a .line .now) _ (fault .result) (fault .ensures) (c .before .before .before .before .if1 .left) (c .before .before .put-line .ensures))
 
 pub open-line-spec : {M : Type 1} → statement M
 open-line-spec =
