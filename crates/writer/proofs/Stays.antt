@@ -30,10 +30,10 @@ use Rattle.writer.specs.declared.state.Answer.{Answer}
 use Rattle.writer.specs.declared.state.Answer.the-variants.{Refused, Done}
 use Rattle.writer.specs.declared.state.Laid.{Laid}
 use Rattle.writer.specs.declared.state.Laid.the-variants.{Not, Finished, Unfinished}
-use Rattle.writer.specs.State.{most, isPart, laidOf, fresh, misshapen, impossible, endIn, moved}
+use Rattle.writer.specs.State.{most, isPart, laidOf, fresh, misshapen, impossible, endIn, moved, openState}
 use Rattle.writer.specs.Block.{countWords, blockWords, fixedWords, wordsIn}
 use Rattle.writer.specs.Answers.{answerNumbers, laidNumbers, left, Added, added}
-use Rattle.writer.specs.Opening.{openBlocked, openFaults, openFault, openState, opening}
+use Rattle.writer.specs.Opening.{openBlocked, openFaults, openFault, opening}
 use Rattle.writer.specs.Adding.{illShaped, isOther, addFaults, addFault, todo, room, lay, adding}
 use Rattle.writer.specs.Closing.{closeFaults, closeFault, closing}
 use Rattle.writer.proofs.Refusals.{Begun, begun, possible-by, can-open, CanAdd, can-add, can-close}

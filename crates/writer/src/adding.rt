@@ -141,25 +141,15 @@ fn lay_place(w: Writer, kind: u16, values: &[u16], line: &mut [u16]) -> Addition
     ensures { λ r. ⌜ added (r .answer) (r .state) (now (line .exit)) ≡ adding w (now (line .entry)) kind (now (values .entry)) ⌝ }
 {
     let s = systems::system_of(w.system);
-    let settings = w.settings;
-    let last = w.last;
     let at = w.place;
     let place = course::place_of(at);
     let k = values.len() + 1;
     let a = s.length - s.payload + place;
     let e = a + k;
     block::lay_fixed(w.mode, kind, values, &mut line[a..e]);
-    let state = Writer {
-        system: w.system,
-        mode: w.mode,
-        last: last,
-        settings: settings,
-        place: Place::At(place + k),
-        rest: Rest::Whole,
-    };
     Addition {
         answer: Laid::Finished,
-        state: state,
+        state: state::moved(w, Place::At(place + k), Rest::Whole),
     }
 }
 
@@ -170,7 +160,6 @@ fn lay_part(w: Writer, kind: u16, values: &[u16], line: &mut [u16]) -> Addition
 {
     let s = systems::system_of(w.system);
     let settings = w.settings;
-    let last = w.last;
     let at = w.place;
     let rest = w.rest;
     let place = course::place_of(at);
@@ -181,17 +170,9 @@ fn lay_part(w: Writer, kind: u16, values: &[u16], line: &mut [u16]) -> Addition
     let e = a + k;
     block::lay_words(settings.block, w.mode, kind, values, laid, &mut line[a..e]);
     let after = rest_after(left, k, kind, values.len(), laid);
-    let state = Writer {
-        system: w.system,
-        mode: w.mode,
-        last: last,
-        settings: settings,
-        place: Place::At(place + k),
-        rest: after,
-    };
     Addition {
         answer: told(left, k),
-        state: state,
+        state: state::moved(w, Place::At(place + k), after),
     }
 }
 

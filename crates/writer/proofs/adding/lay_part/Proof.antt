@@ -109,19 +109,22 @@ lay-words-requires c κs =
 rest-after-requires : tie.Need-rest-after-requires
 rest-after-requires c κs = let z = sizes (found (c .before .before .before .before .before)) in (z .byte, z .number, omega (arith, z .laid, z .few))
 
-add-t18 : tie.Need-add-t18
-add-t18 c = search needs
-
 told-requires : tie.Need-told-requires
 told-requires c κs = search needs
+
+add-t16 : tie.Need-add-t16
+add-t16 c = search needs
+
+moved-requires : tie.Need-moved-requires
+moved-requires c κs = search needs
 
 same-length : tie.Need-same-length
 same-length c = search needs
 
 returns : tie.Need-returns
 returns c =
-    add-done (found (c .before .before .before .before .before .before .before)) _ _ _ (c .before .before .before .before .lay-words .ensures)
-    (c .before .rest-after .ensures) (c .told .ensures)
+    add-done (found (c .before .before .before .before .before .before .before .before)) _ _ _ _ (c .before .before .before .before .before .lay-words .ensures)
+    (c .before .before .rest-after .ensures) (c .before .told .ensures) (c .moved .ensures)
 
 pub lay-part-spec : {M : Type 1} → statement M
 lay-part-spec =
@@ -144,7 +147,8 @@ lay-part-spec =
     part-lay-words-end
     lay-words-requires
     rest-after-requires
-    add-t18
     told-requires
+    add-t16
+    moved-requires
     same-length
     returns)
