@@ -1,7 +1,7 @@
 -- What the calls leave is what the definitions say.
 -- Assumes nothing.
 use mathlib.Core.Path.{_≡_, refl, sym, ap, ap₂, _∙_}
-use mathlib.Core.Bool.{false}
+use mathlib.Core.Bool.{true, false}
 use mathlib.Core.List.{List, [], _∷_, _++_, append-nil}
 use Prim.Native.Nat.{ℕ, _+_, _-_, _≤_, _<_, min}
 use native.Mathlib.Numerals.{add-one}
@@ -28,14 +28,14 @@ use Rattle.writer.specs.declared.state.Laid.the-variants.{Not, Finished,
 use Rattle.writer.specs.declared.state.Answer.the-variants.{Refused, Done}
 use Rattle.writer.specs.Answers.{left, Added, added}
 use Rattle.writer.specs.State.{laidOf, endIn, moved}
-use Rattle.writer.specs.Block.{fixedWords, wordsIn}
+use Rattle.writer.specs.Block.{blockWords, fixedWords, wordsIn}
 use Rattle.writer.specs.Adding.{addFault, todo, room, adding}
 use Rattle.writer.specs.Closing.{closeFault, sealed, closing}
 use Rattle.writer.proofs.FillLaws.{mid-paste, part-whole}
-use Rattle.writer.proofs.BlockLaws.{words-long}
+use Rattle.writer.proofs.BlockLaws.{words-variable, words-fixed, fixed-long, count, count-fixed, count-between, words-long}
 use Rattle.line.proofs.SystemLaws.{payload-most, length-most}
-use Rattle.writer.proofs.Refusals.{count, count-fixed, count-between, CanAdd, can-add}
-use Rattle.writer.proofs.Stays.{words-fixed, fixed-long, fixed-whole, fixed-room}
+use Rattle.writer.proofs.Refusals.{CanAdd, can-add}
+use Rattle.writer.proofs.Stays.{fixed-whole, fixed-room}
 
 -- ---- closing
 -- the last two words stored
@@ -142,7 +142,7 @@ module _ {w : Writer} {line : List ℕ} {kind : ℕ} {vs : List ℕ} {p j rest k
         number = can .number;
       }
 
-  pub add-done : (ys : List ℕ) (after : Rest) (answer : Laid) (st : Writer)
+  add-done : (ys : List ℕ) (after : Rest) (answer : Laid) (st : Writer)
       → ys ≡ take (length (take (a + k - a) (drop a line))) (drop j (wordsIn (w .settings .block) (w .mode) kind vs))
       → after ≡ pick (eqb k rest) Whole (Part kind (length vs) (j + k)) → answer ≡ pick (eqb k rest) Finished Unfinished
       → st ≡ moved w (At (p + k)) after → added answer st (putMid a (a + k - a) line ys) ≡ adding w line kind vs
@@ -162,6 +162,16 @@ module _ {w : Writer} {line : List ℕ} {kind : ℕ} {vs : List ℕ} {p j rest k
       ∙ ap (λ (x : ℕ). g q i (length ws) x a) some
       ∙ ap (λ (x : ℕ). g q i (length ws) (room w ws) x) (f .index ∙ ap (λ (x : ℕ). payloadAt (systemOf (w .system)) + x) (f .place))
       ∙ sym (pick-true _ _ (eq-eqb _ _ (f .clear)))
+
+-- ---- adding in a variable line
+pub part-done : {w : Writer} {line : List ℕ} {kind : ℕ} {vs : List ℕ} {p j rest k a : ℕ} → Found w line kind vs p j rest k a
+    → isVariable (w .settings .block) ≡ true → (ys : List ℕ) (after : Rest) (answer : Laid) (st : Writer)
+    → ys ≡ take (length (take (a + k - a) (drop a line))) (drop j (blockWords (w .mode) kind vs))
+    → after ≡ pick (eqb k rest) Whole (Part kind (length vs) (j + k)) → answer ≡ pick (eqb k rest) Finished Unfinished → st ≡ moved w (At (p + k)) after
+    → added answer st (putMid a (a + k - a) line ys) ≡ adding w line kind vs
+part-done {w} {line} {kind} {vs} {p} {j} {rest} {k} {a} f v ys after answer st e =
+    add-done f ys after answer st
+    (e ∙ ap (λ (l : List ℕ). take (length (take (a + k - a) (drop a line))) (drop j l)) (sym (words-variable (w .settings .block) (w .mode) kind vs v)))
 
 -- ---- adding in a fixed line: all words of the block are laid now
 pub place-found : (w : Writer) (line : List ℕ) (kind : ℕ) (vs : List ℕ) → addFault w (length line) kind vs ≡ 0 → isVariable (w .settings .block) ≡ false
