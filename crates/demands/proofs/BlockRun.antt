@@ -8,7 +8,7 @@ use native.Mathlib.Nat.{zero-add}
 use native.Mathlib.Numerals.{add-one}
 use native.Mathlib.Omega.{arith}
 use lib.Dec.{T, eqb, leb, ltb}
-use lib.ListN.{length, take, drop, set, replicate, length-append, length-map, length-set}
+use lib.ListN.{length, take, drop, set, replicate, length-map, length-set}
 use lib.Seq.{sets, sets-eq, take-length, take-append-seam, take-append-le}
 use borrow.Author.Tests.{ltb-true, le-ltb, lt-leb, eq-eqb}
 use Rattle.lists.specs.Tests.{pick}
@@ -283,12 +283,6 @@ front-long mode kind vs = let e = length-map vs (wordOf mode) in omega (arith, e
 block-is : (mode kind : ℕ) (vs : List ℕ) → blockWords mode kind vs ≡ front mode kind vs ++ (endCode ∷ [])
 unfolding blockWords countWords
 block-is mode kind vs = refl
-
-pub block-long : (mode kind : ℕ) (vs : List ℕ) → length (blockWords mode kind vs) ≡ length vs + 7
-block-long mode kind vs =
-    let a = ap length (block-is mode kind vs) ∙ length-append (front mode kind vs) (endCode ∷ []) in
-    let b = front-long mode kind vs in
-    omega (arith, a, b)
 
 end-to : (mode k n : ℕ) (room : List ℕ) → stepTo mode (now (Data k n n) room) endCode ≡ idle room
 unfolding stepTo stored pick

@@ -4,20 +4,18 @@ use mathlib.Core.Path.{_≡_, refl, sym, ap, _∙_, subst}
 use mathlib.Core.Bool.{false}
 use mathlib.Core.List.{List, [], _∷_, _++_, append-nil}
 use Prim.Native.Nat.{ℕ, _+_}
-use native.Mathlib.Omega.{arith}
-use lib.ListN.{length, length-map}
+use lib.ListN.{length}
 use borrow.Author.Tests.{eq-eqb}
 use Rattle.lists.proofs.Tests.{true-false, pick-true}
-use Rattle.words.specs.Modes.{wordOf}
 use Rattle.line.specs.Fixed.{isVariable, sizeOf}
 use Rattle.writer.specs.declared.state.Rest.{Rest}
 use Rattle.writer.specs.declared.state.Rest.the-variants.{Whole, Part}
 use Rattle.writer.specs.declared.state.Laid.the-variants.{Finished, Unfinished}
 use Rattle.writer.specs.State.{isPart, laidOf}
 use Rattle.writer.specs.Answers.{Added}
-use Rattle.writer.specs.Block.{fixedWords}
 use Rattle.writer.specs.Adding.{addFault, todo, room, lay, adding}
 use Rattle.writer.specs.Course.{pieceOf, joined}
+use Rattle.writer.proofs.BlockLaws.{fixed-long}
 use Rattle.writer.proofs.Keeps.{add-leaves}
 use Rattle.writer.proofs.Stays.{add-possible}
 use Rattle.writer.proofs.Pieces.{rest-left, varies}
@@ -27,10 +25,6 @@ use Rattle.demands.proofs.AllLaws.{all-more}
 use Rattle.demands.proofs.DeskOk.{OpenNow, Owing, Owes, DeskOk}
 use Rattle.demands.proofs.DeskCalls.{joined-append, laidDesk}
 use Rattle.demands.proofs.DeskAdds.{now-open, lent-now, all-now, words-now, goes-now, adds-say}
-
-fixed-long : (mode kind : ℕ) (vs : List ℕ) → length (fixedWords mode kind vs) ≡ length vs + 1
-unfolding fixedWords
-fixed-long mode kind vs = omega (arith, length-map vs (wordOf mode))
 
 -- ---- an unfinished block is one: its type, how many values it has, and how many words are laid
 abbrev kindOf : Rest → ℕ

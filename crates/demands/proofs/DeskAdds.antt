@@ -23,13 +23,12 @@ use Rattle.writer.specs.State.{most, laidOf}
 use Rattle.writer.specs.Block.{blockWords, fixedWords, wordsIn}
 use Rattle.writer.specs.Adding.{valued, illShaped, isOther, addFault, todo, room, adding}
 use Rattle.writer.specs.Course.{pieceOf, asLaid}
-use Rattle.writer.proofs.BlockLaws.{words-long}
+use Rattle.writer.proofs.BlockLaws.{words-variable, words-fixed, block-long, count, count-variable, words-long}
 use Rattle.writer.proofs.Legal.{each-take, each-drop}
-use Rattle.writer.proofs.Refusals.{CanAdd, can-add, count, count-variable}
-use Rattle.writer.proofs.Stays.{words-variable, words-fixed, part-laid, fixed-whole}
+use Rattle.writer.proofs.Refusals.{CanAdd, can-add}
+use Rattle.writer.proofs.Stays.{part-laid, fixed-whole}
 use Rattle.writer.proofs.Pieces.{piece-laid, all-laid, some-left, fixed-once, as-long, as-before, as-behind}
 use Rattle.demands.specs.Sending.{Desk, valuesNow, pieceNow, joinedPieces}
-use Rattle.demands.proofs.BlockRun.{block-long}
 use Rattle.demands.proofs.DeskOk.{OpenNow, Owes, DeskOk}
 use Rattle.demands.proofs.Outcomes.{Varies, Fills, Adds}
 use Rattle.demands.proofs.DeskCalls.{joined-pieces-append}

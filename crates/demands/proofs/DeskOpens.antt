@@ -15,9 +15,9 @@ use Rattle.course.specs.declared.Place.{Place}
 use Rattle.course.specs.declared.Place.the-variants.{Shut, At}
 use Rattle.course.specs.Course.{isAt}
 use Rattle.writer.specs.declared.state.Answer.the-variants.{Done}
-use Rattle.writer.specs.State.{isPart}
+use Rattle.writer.specs.State.{isPart, openState}
 use Rattle.writer.specs.Answers.{Left, left}
-use Rattle.writer.specs.Opening.{isNext, openBlocked, openState, openWords, opening}
+use Rattle.writer.specs.Opening.{isNext, openBlocked, openWords, opening}
 use Rattle.writer.proofs.Keeps.{open-clear, open-leaves}
 use Rattle.writer.proofs.Refusals.{CanOpen, can-open}
 use Rattle.writer.proofs.Stays.{open-possible}

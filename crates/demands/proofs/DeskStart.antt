@@ -18,12 +18,12 @@ use Rattle.writer.specs.declared.state.Writer.{Writer}
 use Rattle.writer.specs.State.{most, isPart, misshapen, impossible, fresh}
 use Rattle.writer.specs.Block.{blockWords}
 use Rattle.writer.specs.Adding.{valued}
+use Rattle.writer.proofs.BlockLaws.{block-long}
 use Rattle.writer.proofs.Refusals.{begun}
 use Rattle.writer.proofs.Stays.{fresh-possible}
 use Rattle.demands.specs.All.{All}
 use Rattle.demands.specs.Sending.{Piece, Desk, start, joinedPieces}
 use Rattle.demands.specs.Demand2.{HasWord}
-use Rattle.demands.proofs.BlockRun.{block-long}
 use Rattle.demands.proofs.DeskOk.{Owing, DeskOk}
 use Rattle.demands.proofs.DeskCloses.{varied-by}
 

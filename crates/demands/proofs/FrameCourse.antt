@@ -41,11 +41,10 @@ use Rattle.writer.proofs.Refusals.{clear-open}
 use Rattle.writer.specs.Course.{pieceOf, joined, asLaid}
 use Rattle.writer.proofs.Keeps.{open-leaves, add-leaves, close-leaves}
 use Rattle.writer.proofs.Framing.{front, front-length, framed-front}
-use Rattle.writer.proofs.Stays.{words-variable}
+use Rattle.writer.proofs.BlockLaws.{words-variable, block-long}
 use Rattle.writer.proofs.Pieces.{piece-laid, all-laid}
 use Rattle.demands.specs.Sending.{Call, opens, adds, closes, Piece, Complete, Sent, Desk, openedBy, sendsBy, after, sends, sentBy, blocksOf}
 use Rattle.demands.specs.Demand3.{Follows}
-use Rattle.demands.proofs.BlockRun.{block-long}
 use Rattle.demands.proofs.DeskOk.{DeskOk}
 use Rattle.demands.proofs.DeskCalls.{after-opened, after-finished, after-unfinished, after-closed}
 use Rattle.demands.proofs.DeskLaws.{after-ok}

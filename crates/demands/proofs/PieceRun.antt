@@ -14,6 +14,7 @@ use Rattle.lists.proofs.Tests.{pick-true, pick-false}
 use Rattle.writer.specs.Block.{blockWords}
 use Rattle.machine.specs.declared.phase.Phase.{Phase}
 use Rattle.machine.specs.declared.phase.Phase.the-variants.{Idle}
+use Rattle.writer.proofs.BlockLaws.{block-long}
 use Rattle.demands.specs.Sending.{Piece, joinedPieces}
 use Rattle.demands.specs.Hearing.{Heard, is-block}
 use Rattle.demands.specs.Damage.{allOn}
@@ -21,7 +22,7 @@ use Rattle.demands.proofs.Run.{Now, now, idle, runTo, runOut}
 use Rattle.demands.proofs.DeskCalls.{joined-pieces-append}
 use Rattle.demands.proofs.Ahead.{blocksHeard, Behind, Matches}
 use Rattle.demands.proofs.RunLaws.{run-to-append, run-out-append, run-room}
-use Rattle.demands.proofs.BlockRun.{Shaped, block-long, whole-out, whole-to, front-out, behind-out, behind-to}
+use Rattle.demands.proofs.BlockRun.{Shaped, whole-out, whole-to, front-out, behind-out, behind-to}
 
 pub and-none : (a : Bool) → (a && false) ≡ false
 and-none true = refl

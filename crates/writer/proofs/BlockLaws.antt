@@ -1,64 +1,56 @@
--- Laws of the words of a block: what stands before the values, and what after them.
+-- Laws of the words of a block: how many they are, by the block type of the line.
 -- Assumes nothing.
-use mathlib.Core.Path.{_≡_, refl, sym, ap, ap₂, _∙_}
+use mathlib.Core.Path.{_≡_, refl, sym, ap, _∙_}
 use mathlib.Core.Bool.{Bool, true, false}
-use mathlib.Core.List.{List, [], _∷_, _++_, map, append-nil}
-use Prim.Native.Nat.{ℕ, _+_}
+use mathlib.Core.List.{List, [], _∷_, map}
+use Prim.Native.Nat.{ℕ, _+_, _≤_, _<_}
+use native.Mathlib.Omega.{arith}
 use lib.ListN.{length, length-append, length-map}
 use Rattle.lists.specs.Tests.{pick}
 use Rattle.lists.proofs.Tests.{pick-true, pick-false}
-use Rattle.words.specs.Forms.{byteWord}
 use Rattle.words.specs.Modes.{wordOf}
-use Rattle.words.specs.Class.{separator, endCode}
+use Rattle.words.specs.Class.{endCode}
 use Rattle.line.specs.Fixed.{isVariable}
 use Rattle.writer.specs.Block.{countWords, blockWords, fixedWords, wordsIn}
-use Rattle.writer.specs.Cuts.{headIn, tailIn}
 
-pub head-variable : (block kind n : ℕ) → isVariable block ≡ true → headIn block kind n ≡ separator ∷ byteWord kind ∷ countWords n
-unfolding headIn
-head-variable block kind n e = pick-true (separator ∷ byteWord kind ∷ countWords n) (byteWord kind ∷ []) e
+pub words-variable : (block mode kind : ℕ) (vs : List ℕ) → isVariable block ≡ true → wordsIn block mode kind vs ≡ blockWords mode kind vs
+unfolding wordsIn
+words-variable block mode kind vs v = pick-true _ _ v
 
-pub head-fixed : (block kind n : ℕ) → isVariable block ≡ false → headIn block kind n ≡ byteWord kind ∷ []
-unfolding headIn
-head-fixed block kind n e = pick-false (separator ∷ byteWord kind ∷ countWords n) (byteWord kind ∷ []) e
+pub words-fixed : (block mode kind : ℕ) (vs : List ℕ) → isVariable block ≡ false → wordsIn block mode kind vs ≡ fixedWords mode kind vs
+unfolding wordsIn
+words-fixed block mode kind vs v = pick-false _ _ v
 
-pub tail-variable : (block : ℕ) → isVariable block ≡ true → tailIn block ≡ endCode ∷ []
-unfolding tailIn
-tail-variable block e = pick-true (endCode ∷ []) [] e
+pub block-long : (mode kind : ℕ) (vs : List ℕ) → length (blockWords mode kind vs) ≡ length vs + 7
+unfolding blockWords countWords
+block-long mode kind vs = let a = length-append (map (wordOf mode) vs) (endCode ∷ []) in let b = length-map vs (wordOf mode) in omega arith
 
-pub tail-fixed : (block : ℕ) → isVariable block ≡ false → tailIn block ≡ []
-unfolding tailIn
-tail-fixed block e = pick-false (endCode ∷ []) [] e
+pub fixed-long : (mode kind : ℕ) (vs : List ℕ) → length (fixedWords mode kind vs) ≡ length vs + 1
+unfolding fixedWords
+fixed-long mode kind vs = let b = length-map vs (wordOf mode) in omega arith
 
--- how many words these are
-pub head-six : (block kind n : ℕ) → isVariable block ≡ true → length (headIn block kind n) ≡ 6
-unfolding countWords
-head-six block kind n e = ap length (head-variable block kind n e)
+-- how many words a block of n values has
+unfoldable pub count : ℕ → ℕ → ℕ
+count block n = pick (isVariable block) (n + 7) (n + 1)
 
-pub head-one : (block kind n : ℕ) → isVariable block ≡ false → length (headIn block kind n) ≡ 1
-head-one block kind n e = ap length (head-fixed block kind n e)
+pub count-variable : (block n : ℕ) → isVariable block ≡ true → count block n ≡ n + 7
+unfolding count
+count-variable block n v = pick-true (n + 7) (n + 1) v
 
-pub head-long : (block kind n : ℕ) → length (headIn block kind n) ≡ length (headIn block 0 0)
-head-long block kind n = go (isVariable block) refl
+pub count-fixed : (block n : ℕ) → isVariable block ≡ false → count block n ≡ n + 1
+unfolding count
+count-fixed block n v = pick-false (n + 7) (n + 1) v
+
+pub count-between : (block n : ℕ) → (0 < count block n) × (count block n ≤ n + 7)
+count-between block n = go (isVariable block) refl
   where
-    go : (b : Bool) → isVariable block ≡ b → length (headIn block kind n) ≡ length (headIn block 0 0)
-    go true e = head-six block kind n e ∙ sym (head-six block 0 0 e)
-    go false e = head-one block kind n e ∙ sym (head-one block 0 0 e)
+    go : (b : Bool) → isVariable block ≡ b → (0 < count block n) × (count block n ≤ n + 7)
+    go true v = rw (count-variable block n v) (omega arith, omega arith)
+    go false v = rw (count-fixed block n v) (omega arith, omega arith)
 
--- a block's words are the head, the values' words and the tail
-pub words-are : (block mode kind : ℕ) (values : List ℕ) → wordsIn block mode kind values ≡ headIn block kind (length values) ++ (map (wordOf mode) values ++ tailIn block)
-unfolding wordsIn headIn tailIn blockWords fixedWords countWords pick
-words-are block mode kind values = go (isVariable block)
+pub words-long : (block mode kind : ℕ) (vs : List ℕ) → length (wordsIn block mode kind vs) ≡ count block (length vs)
+words-long block mode kind vs = go (isVariable block) refl
   where
-    go : (b : Bool) → pick b (blockWords mode kind values) (fixedWords mode kind values)
-        ≡ pick b (separator ∷ byteWord kind ∷ countWords (length values)) (byteWord kind ∷ []) ++ (map (wordOf mode) values ++ pick b (endCode ∷ []) [])
-    go true = refl
-    go false = ap (λ (l : List ℕ). byteWord kind ∷ l) (sym (append-nil (map (wordOf mode) values)))
-
-pub words-long : (block mode kind : ℕ) (values : List ℕ)
-    → length (wordsIn block mode kind values) ≡ length (headIn block 0 0) + (length values + length (tailIn block))
-words-long block mode kind values =
-    ap length (words-are block mode kind values)
-    ∙ length-append (headIn block kind (length values)) (map (wordOf mode) values ++ tailIn block)
-    ∙ ap₂ _+_ (head-long block kind (length values))
-    (length-append (map (wordOf mode) values) (tailIn block) ∙ ap (λ (n : ℕ). n + length (tailIn block)) (length-map values (wordOf mode)))
+    go : (b : Bool) → isVariable block ≡ b → length (wordsIn block mode kind vs) ≡ count block (length vs)
+    go true v = ap length (words-variable block mode kind vs v) ∙ block-long mode kind vs ∙ sym (count-variable block (length vs) v)
+    go false v = ap length (words-fixed block mode kind vs v) ∙ fixed-long mode kind vs ∙ sym (count-fixed block (length vs) v)

@@ -1,7 +1,7 @@
 -- What the calls leave is what the definitions say.
 -- Assumes nothing.
 use mathlib.Core.Path.{_≡_, refl, sym, ap, ap₂, _∙_}
-use mathlib.Core.Bool.{false}
+use mathlib.Core.Bool.{true, false}
 use mathlib.Core.List.{List, [], _∷_, _++_, append-nil}
 use Prim.Native.Nat.{ℕ, _+_, _-_, _≤_, _<_, min}
 use native.Mathlib.Numerals.{add-one}
@@ -28,14 +28,14 @@ use Rattle.writer.specs.declared.state.Laid.the-variants.{Not, Finished,
 use Rattle.writer.specs.declared.state.Answer.the-variants.{Refused, Done}
 use Rattle.writer.specs.Answers.{left, Added, added}
 use Rattle.writer.specs.State.{laidOf, endIn, moved}
-use Rattle.writer.specs.Block.{fixedWords, wordsIn}
+use Rattle.writer.specs.Block.{blockWords, fixedWords, wordsIn}
 use Rattle.writer.specs.Adding.{addFault, todo, room, adding}
 use Rattle.writer.specs.Closing.{closeFault, sealed, closing}
 use Rattle.writer.proofs.FillLaws.{mid-paste, part-whole}
-use Rattle.writer.proofs.BlockLaws.{words-long}
+use Rattle.writer.proofs.BlockLaws.{words-variable, words-fixed, fixed-long, count, count-fixed, count-between, words-long}
 use Rattle.line.proofs.SystemLaws.{payload-most, length-most}
-use Rattle.writer.proofs.Refusals.{count, count-fixed, count-between, CanAdd, can-add}
-use Rattle.writer.proofs.Stays.{words-fixed, fixed-long, fixed-whole, fixed-room}
+use Rattle.writer.proofs.Refusals.{CanAdd, can-add}
+use Rattle.writer.proofs.Stays.{fixed-whole, fixed-room}
 
 -- ---- closing
 -- the last two words stored
@@ -80,9 +80,10 @@ module _ (w : Writer) (line : List ℕ) (fault : ℕ) (is : fault ≡ closeFault
   unfolding closing
   close-refused h = ap (λ (n : ℕ). left (Refused n) w line) is ∙ sym (pick-false _ _ (ne-eqb _ _ (λ e. h (is ∙ e))))
 
-  pub close-done : fault ≡ 0 → (l : List ℕ) → l ≡ sealed (systemOf (w .system)) (w .settings .flag) line → left Done (moved w Shut (w .rest)) l ≡ closing w line
+  pub close-done : fault ≡ 0 → (st : Writer) (l : List ℕ) → st ≡ moved w Shut (w .rest) → l ≡ sealed (systemOf (w .system)) (w .settings .flag) line
+      → left Done st l ≡ closing w line
   unfolding closing
-  close-done h l e = ap (left Done (moved w Shut (w .rest))) e ∙ sym (pick-true _ _ (eq-eqb _ _ (sym is ∙ h)))
+  close-done h st l s e = ap₂ (left Done) s e ∙ sym (pick-true _ _ (eq-eqb _ _ (sym is ∙ h)))
 
 -- ---- adding
 pub add-refused : (w : Writer) (line : List ℕ) (kind : ℕ) (vs : List ℕ) (fault : ℕ) → fault ≡ addFault w (length line) kind vs → (fault ≡ 0 → ⊥)
@@ -141,19 +142,19 @@ module _ {w : Writer} {line : List ℕ} {kind : ℕ} {vs : List ℕ} {p j rest k
         number = can .number;
       }
 
-  pub add-done : (ys : List ℕ) (after : Rest) (answer : Laid)
+  add-done : (ys : List ℕ) (after : Rest) (answer : Laid) (st : Writer)
       → ys ≡ take (length (take (a + k - a) (drop a line))) (drop j (wordsIn (w .settings .block) (w .mode) kind vs))
       → after ≡ pick (eqb k rest) Whole (Part kind (length vs) (j + k)) → answer ≡ pick (eqb k rest) Finished Unfinished
-      → added answer (moved w (At (p + k)) after) (putMid a (a + k - a) line ys) ≡ adding w line kind vs
+      → st ≡ moved w (At (p + k)) after → added answer st (putMid a (a + k - a) line ys) ≡ adding w line kind vs
   unfolding adding
-  add-done ys after answer hy hr ht =
+  add-done ys after answer st hy hr ht hs =
       let ws = todo w kind vs in
       let q = placeOf (w .place) in
       let i = laidOf (w .rest) in
       let g = leaves w line kind vs in
       let some : k ≡ room w ws = f .now ∙ ap₂ (λ (x y : ℕ). min (endIn w - x) y) (f .place) rest-is in
       let pasted = mid-paste line (drop j (wordsIn (w .settings .block) (w .mode) kind vs)) ys a k within hy in
-      let first : added answer (moved w (At (p + k)) after) (putMid a (a + k - a) line ys) ≡ g p j rest k a = rw (ht, hr, pasted) in
+      let first : added answer st (putMid a (a + k - a) line ys) ≡ g p j rest k a = rw (hs, ht, hr, pasted) in
       first
       ∙ ap (λ (x : ℕ). g x j rest k a) (f .place)
       ∙ ap (λ (x : ℕ). g q x rest k a) (f .laid)
@@ -161,6 +162,16 @@ module _ {w : Writer} {line : List ℕ} {kind : ℕ} {vs : List ℕ} {p j rest k
       ∙ ap (λ (x : ℕ). g q i (length ws) x a) some
       ∙ ap (λ (x : ℕ). g q i (length ws) (room w ws) x) (f .index ∙ ap (λ (x : ℕ). payloadAt (systemOf (w .system)) + x) (f .place))
       ∙ sym (pick-true _ _ (eq-eqb _ _ (f .clear)))
+
+-- ---- adding in a variable line
+pub part-done : {w : Writer} {line : List ℕ} {kind : ℕ} {vs : List ℕ} {p j rest k a : ℕ} → Found w line kind vs p j rest k a
+    → isVariable (w .settings .block) ≡ true → (ys : List ℕ) (after : Rest) (answer : Laid) (st : Writer)
+    → ys ≡ take (length (take (a + k - a) (drop a line))) (drop j (blockWords (w .mode) kind vs))
+    → after ≡ pick (eqb k rest) Whole (Part kind (length vs) (j + k)) → answer ≡ pick (eqb k rest) Finished Unfinished → st ≡ moved w (At (p + k)) after
+    → added answer st (putMid a (a + k - a) line ys) ≡ adding w line kind vs
+part-done {w} {line} {kind} {vs} {p} {j} {rest} {k} {a} f v ys after answer st e =
+    add-done f ys after answer st
+    (e ∙ ap (λ (l : List ℕ). take (length (take (a + k - a) (drop a line))) (drop j l)) (sym (words-variable (w .settings .block) (w .mode) kind vs v)))
 
 -- ---- adding in a fixed line: all words of the block are laid now
 pub place-found : (w : Writer) (line : List ℕ) (kind : ℕ) (vs : List ℕ) → addFault w (length line) kind vs ≡ 0 → isVariable (w .settings .block) ≡ false
@@ -177,14 +188,14 @@ place-found w line kind vs clear v p a hp ha =
     }
 
 pub place-done : {w : Writer} {line : List ℕ} {kind : ℕ} {vs : List ℕ} {p a : ℕ} → Found w line kind vs p 0 (length vs + 1) (length vs + 1) a
-    → isVariable (w .settings .block) ≡ false → (ys : List ℕ) → ys ≡ fixedWords (w .mode) kind vs
-    → added Finished (moved w (At (p + (length vs + 1))) Whole) (putMid a (a + (length vs + 1) - a) line ys) ≡ adding w line kind vs
-place-done {w} {line} {kind} {vs} {p} {a} f v ys e =
+    → isVariable (w .settings .block) ≡ false → (ys : List ℕ) (st : Writer) → ys ≡ fixedWords (w .mode) kind vs
+    → st ≡ moved w (At (p + (length vs + 1))) Whole → added Finished st (putMid a (a + (length vs + 1) - a) line ys) ≡ adding w line kind vs
+place-done {w} {line} {kind} {vs} {p} {a} f v ys st e hs =
     let all = words-fixed (w .settings .block) (w .mode) kind vs v in
     let many = part-whole line a (length vs + 1) (sizes f .within) in
     let long = fixed-long (w .mode) kind vs in
     let k = length (take (a + (length vs + 1) - a) (drop a line)) in
     let whole = eq-eqb (length vs + 1) (length vs + 1) refl in
-    add-done f ys Whole Finished
+    add-done f ys Whole Finished st
     (e ∙ sym (take-all k (fixedWords (w .mode) kind vs) (omega (arith, many, long))) ∙ ap (take k) (sym all))
-    (sym (pick-true Whole (Part kind (length vs) (0 + (length vs + 1))) whole)) (sym (pick-true Finished Unfinished whole))
+    (sym (pick-true Whole (Part kind (length vs) (0 + (length vs + 1))) whole)) (sym (pick-true Finished Unfinished whole)) hs

@@ -53,11 +53,6 @@ part-of j m l = let e : j + m - j ≡ m = omega arith in ap (λ (k : ℕ). take 
 pub part-map : (f : ℕ → ℕ) (b m : ℕ) (l : List ℕ) → map f (take (b + m - b) (drop b l)) ≡ take m (drop b (map f l))
 part-map f b m l = ap (map f) (part-of b m l) ∙ map-part f b m l
 
--- nothing to lay, and so no room
-pub none-left : (j : ℕ) (d l : List ℕ) → j + length d ≤ length l → length l ≡ 0 → d ≡ take (length d) (drop j l)
-none-left j [] l h e = refl
-none-left j (x ∷ d) l h e = absurd (omega arith)
-
 -- ---- the part of a joined list, by the parts of its two lists
 drop-append : (j : ℕ) (a b : List ℕ) → drop j (a ++ b) ≡ drop j a ++ drop (j - length a) b
 drop-append zero a b = ap (λ (k : ℕ). a ++ drop k b) (sym (zero-sub (length a)))

@@ -16,9 +16,9 @@ use Rattle.line.specs.Systems.{systemOf}
 use Rattle.writer.specs.declared.state.Writer.{Writer}
 use Rattle.writer.specs.declared.state.Answer.the-variants.{Refused, Done}
 use Rattle.writer.specs.declared.state.Laid.the-variants.{Not}
-use Rattle.writer.specs.State.{moved}
+use Rattle.writer.specs.State.{moved, openState}
 use Rattle.writer.specs.Answers.{left, added}
-use Rattle.writer.specs.Opening.{openFault, openState, openWords, opening}
+use Rattle.writer.specs.Opening.{openFault, openWords, opening}
 use Rattle.writer.specs.Adding.{addFault, lay, adding}
 use Rattle.writer.specs.Closing.{closeFault, sealed, closing}
 

@@ -33,7 +33,8 @@ use Rattle.writer.specs.Course.{pieceOf, asLaid}
 use Rattle.writer.proofs.Keeps.{add-leaves, add-stays}
 use Rattle.writer.proofs.Refusals.{can-add}
 use Rattle.writer.proofs.Writing.{either, piece-law}
-use Rattle.writer.proofs.Stays.{fixed-whole, fixed-fits, words-fixed}
+use Rattle.writer.proofs.BlockLaws.{words-fixed}
+use Rattle.writer.proofs.Stays.{fixed-whole, fixed-fits}
 
 -- ---- one addition
 done-or : (b : Bool) → pick b Finished Unfinished ≡ Finished → b ≡ true

@@ -28,12 +28,11 @@ use Rattle.writer.specs.declared.state.Rest.{Rest}
 use Rattle.writer.specs.declared.state.Rest.the-variants.{Whole, Part}
 use Rattle.writer.specs.declared.state.Writer.{Writer}
 use Rattle.writer.specs.State.{most, isPart, laidOf, misshapen, impossible, endIn}
-use Rattle.writer.specs.Cuts.{headIn, tailIn}
 use Rattle.writer.specs.Adding.{valued, illShaped, isFull, isOther, addFaults, addFault}
 use Rattle.writer.specs.Opening.{openBlocked, openFaults, openFault}
 use Rattle.writer.specs.Closing.{closeFaults, closeFault}
 use Rattle.writer.proofs.StateLaws.{open-rising, add-rising, close-rising}
-use Rattle.writer.proofs.BlockLaws.{head-six, head-one, tail-variable, tail-fixed}
+use Rattle.writer.proofs.BlockLaws.{count, count-variable, count-between}
 
 -- ---- 1, 18, 19
 fit-of : (w : Writer) (line : List ℕ) → not (fitsLength (w .system) (w .mode) (length line)) ≡ false → (isSystem (w .system) ≡ true) × Fit (w .system) (w .mode) line
@@ -68,24 +67,7 @@ pub possible-by : (w : Writer) → Begun w → impossible w ≡ false
 unfolding impossible
 possible-by w b = false-or (laws.begun-possible (w .system) (w .last) (w .settings) (w .place) (isPart (w .rest)) (b .course)) (b .shaped)
 
--- ---- how many words a block has
-abbrev pub count : ℕ → ℕ → ℕ
-count block n = length (headIn block 0 0) + (n + length (tailIn block))
-
-pub count-variable : (block n : ℕ) → isVariable block ≡ true → count block n ≡ n + 7
-count-variable block n e = let tail : length (tailIn block) ≡ 1 = ap length (tail-variable block e) in omega (arith, head-six block 0 0 e, tail)
-
-pub count-fixed : (block n : ℕ) → isVariable block ≡ false → count block n ≡ n + 1
-count-fixed block n e = let tail : length (tailIn block) ≡ 0 = ap length (tail-fixed block e) in omega (arith, head-one block 0 0 e, tail)
-
-pub count-between : (block n : ℕ) → (0 < count block n) × (count block n ≤ n + 7)
-count-between block n = go (isVariable block) refl
-  where
-    go : (b : Bool) → isVariable block ≡ b → (0 < count block n) × (count block n ≤ n + 7)
-    go true e = rw (count-variable block n e) (omega arith, omega arith)
-    go false e = rw (count-fixed block n e) (omega arith, omega arith)
-
--- an unfinished block has a word left
+-- ---- an unfinished block has a word left
 laid-below : (block : ℕ) (rest : Rest) (kind n : ℕ) → (isPart rest && not (isVariable block)) ≡ false → misshapen rest ≡ false → isOther rest kind n ≡ false
     → laidOf rest < count block n
 laid-below block Whole kind n v m o = count-between block n .0

@@ -19,10 +19,10 @@ use Rattle.line.specs.Layout.{areaLength}
 use Rattle.line.specs.Check.{fitsLength}
 use Rattle.course.specs.Course.{blocksEnd}
 use Rattle.writer.specs.declared.state.Writer.{Writer}
-use Rattle.writer.specs.State.{fresh, impossible}
+use Rattle.writer.specs.State.{fresh, impossible, openState}
 use Rattle.writer.specs.Block.{countWords, blockWords, wordsIn}
 use Rattle.writer.specs.Answers.{Left, Added}
-use Rattle.writer.specs.Opening.{openBlocked, openFault, openState, openWords}
+use Rattle.writer.specs.Opening.{openBlocked, openFault, openWords}
 use Rattle.writer.specs.Adding.{valued, illShaped, addFault, todo, room, lay, adding}
 use Rattle.writer.specs.Closing.{closeFault, closing}
 use Rattle.writer.specs.Course.{pieceOf, Filling, filled, adds, Written}

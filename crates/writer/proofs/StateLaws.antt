@@ -1,6 +1,6 @@
 -- Laws of the writer's answers: the numbers of its refusals rise; and what opening leaves, refused or done.
 -- Assumes nothing.
-use mathlib.Core.Path.{_≡_, refl, sym, ap, _∙_}
+use mathlib.Core.Path.{_≡_, refl, sym, ap, ap₂, _∙_}
 use mathlib.Core.Bool.{Bool, true}
 use mathlib.Core.List.{List}
 use Prim.Native.Nat.{ℕ}
@@ -15,7 +15,8 @@ use Rattle.line.specs.Check.{fitsLength}
 use Rattle.writer.specs.declared.state.Writer.{Writer}
 use Rattle.writer.specs.declared.state.Answer.the-variants.{Refused, Done}
 use Rattle.writer.specs.Answers.{left}
-use Rattle.writer.specs.Opening.{openFaults, openFault, openState, openWords, opening}
+use Rattle.writer.specs.State.{openState}
+use Rattle.writer.specs.Opening.{openFaults, openFault, openWords, opening}
 use Rattle.writer.specs.Adding.{addFaults}
 use Rattle.writer.specs.Closing.{closeFaults}
 
@@ -42,8 +43,8 @@ unfolding opening
 not-opened w f v n t line x e h =
     ap (λ (k : ℕ). left (Refused k) w line) e ∙ sym (pick-false _ _ (ne-eqb (openFault w n t (length line)) 0 (λ z. h (e ∙ z))))
 
-pub opened : (w : Writer) (f v : Bool) (n : ℕ) (t : Settings) (line out : List ℕ) (x : ℕ) → x ≡ openFault w n t (length line) → x ≡ 0
-    → out ≡ openWords (w .system) f v n t → left Done (openState w n t) out ≡ opening w f v n t line
+pub opened : (w : Writer) (f v : Bool) (n : ℕ) (t : Settings) (line out : List ℕ) (st : Writer) (x : ℕ) → x ≡ openFault w n t (length line) → x ≡ 0
+    → out ≡ openWords (w .system) f v n t → st ≡ openState w n t → left Done st out ≡ opening w f v n t line
 unfolding opening
-opened w f v n t line out x e h k =
-    ap (left Done (openState w n t)) k ∙ sym (pick-true _ _ (eq-eqb (openFault w n t (length line)) 0 (sym e ∙ h)))
+opened w f v n t line out st x e h k s =
+    ap₂ (left Done) s k ∙ sym (pick-true _ _ (eq-eqb (openFault w n t (length line)) 0 (sym e ∙ h)))

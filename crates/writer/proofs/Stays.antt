@@ -2,18 +2,16 @@
 -- Assumes nothing.
 use mathlib.Core.Path.{_≡_, refl, sym, ap, ap₂, _∙_, subst}
 use mathlib.Core.Bool.{Bool, true, false, _&&_, _||_, not}
-use mathlib.Core.List.{List, [], _∷_, map}
+use mathlib.Core.List.{List}
 use Prim.Native.Nat.{ℕ, _+_, _-_, _*_, _≤_, _<_, min}
 use native.Mathlib.Nat.{one-mul}
 use native.Mathlib.Omega.{arith}
 use lib.Dec.{T, eqb, ltb}
-use lib.ListN.{length, getD, drop, length-append, length-drop, length-map}
+use lib.ListN.{length, getD, drop, length-drop}
 use borrow.Author.Tests.{eqb-true, eqb-false, eq-eqb, le-leb, le-ltb, ltb-false, not-false}
 use Rattle.lists.specs.Tests.{pick}
 use Rattle.lists.proofs.Tests.{true-false, or-left, or-right, or-false, false-or, both-true, and-true, pick-true, pick-false}
 use Rattle.lists.proofs.Refusals.{given-holds}
-use Rattle.words.specs.Modes.{wordOf}
-use Rattle.words.specs.Class.{endCode}
 use Rattle.line.specs.declared.settings.Settings.{Settings}
 use Rattle.course.specs.declared.Place.{Place}
 use Rattle.course.specs.declared.Place.the-variants.{Shut, At}
@@ -30,12 +28,13 @@ use Rattle.writer.specs.declared.state.Answer.{Answer}
 use Rattle.writer.specs.declared.state.Answer.the-variants.{Refused, Done}
 use Rattle.writer.specs.declared.state.Laid.{Laid}
 use Rattle.writer.specs.declared.state.Laid.the-variants.{Not, Finished, Unfinished}
-use Rattle.writer.specs.State.{most, isPart, laidOf, fresh, misshapen, impossible, endIn, moved}
-use Rattle.writer.specs.Block.{countWords, blockWords, fixedWords, wordsIn}
+use Rattle.writer.specs.State.{most, isPart, laidOf, fresh, misshapen, impossible, endIn, moved, openState}
+use Rattle.writer.specs.Block.{wordsIn}
 use Rattle.writer.specs.Answers.{answerNumbers, laidNumbers, left, Added, added}
-use Rattle.writer.specs.Opening.{openBlocked, openFaults, openFault, openState, opening}
+use Rattle.writer.specs.Opening.{openBlocked, openFaults, openFault, opening}
 use Rattle.writer.specs.Adding.{illShaped, isOther, addFaults, addFault, todo, room, lay, adding}
 use Rattle.writer.specs.Closing.{closeFaults, closeFault, closing}
+use Rattle.writer.proofs.BlockLaws.{words-variable, words-fixed, block-long, fixed-long}
 use Rattle.writer.proofs.Refusals.{Begun, begun, possible-by, can-open, CanAdd, can-add, can-close}
 
 -- another place and rest in a line that is begun
@@ -117,23 +116,6 @@ module _ (w : Writer) (possible : impossible w ≡ false) where
   pub close-never-2 : (long : ℕ) → closeFault w long ≡ 2 → ⊥
   unfolding closeFault
   close-never-2 long e = not-given (given-holds 2 (closeFaults w long) e (λ z. omega arith))
-
--- ---- adding: how many words a block has
-pub words-variable : (block mode kind : ℕ) (vs : List ℕ) → isVariable block ≡ true → wordsIn block mode kind vs ≡ blockWords mode kind vs
-unfolding wordsIn
-words-variable block mode kind vs v = pick-true _ _ v
-
-pub words-fixed : (block mode kind : ℕ) (vs : List ℕ) → isVariable block ≡ false → wordsIn block mode kind vs ≡ fixedWords mode kind vs
-unfolding wordsIn
-words-fixed block mode kind vs v = pick-false _ _ v
-
-block-long : (mode kind : ℕ) (vs : List ℕ) → length (blockWords mode kind vs) ≡ length vs + 7
-unfolding blockWords countWords
-block-long mode kind vs = let a = length-append (map (wordOf mode) vs) (endCode ∷ []) in let b = length-map vs (wordOf mode) in omega arith
-
-pub fixed-long : (mode kind : ℕ) (vs : List ℕ) → length (fixedWords mode kind vs) ≡ length vs + 1
-unfolding fixedWords
-fixed-long mode kind vs = let b = length-map vs (wordOf mode) in omega arith
 
 -- ---- what an accepted addition finds
 fixed-by : (p : Place) (block kind n : ℕ) → isAt p ≡ true → isVariable block ≡ false → illShaped p block kind n ≡ false → n + 1 ≡ sizeOf block

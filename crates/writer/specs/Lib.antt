@@ -1,6 +1,5 @@
 pub mod State
 pub mod Block
-pub mod Cuts
 pub mod Answers
 pub mod Opening
 pub mod Adding

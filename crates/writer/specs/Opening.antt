@@ -9,7 +9,6 @@ use Rattle.lists.specs.Tests.{pick, Refusal, when, lowestOf}
 use Rattle.line.specs.declared.settings.Settings.{Settings}
 use Rattle.course.specs.declared.Last.{Last}
 use Rattle.course.specs.declared.Last.the-variants.{Unknown, Number}
-use Rattle.course.specs.declared.Place.the-variants.{At}
 use Rattle.line.specs.Systems.{systemOf}
 use Rattle.line.specs.Settings.{settingsFaults, sameSettings}
 use Rattle.line.specs.Layout.{framed}
@@ -17,7 +16,7 @@ use Rattle.line.specs.Check.{fitsLength}
 use Rattle.course.specs.Course.{isAt, nextNumber}
 use Rattle.writer.specs.declared.state.Writer.{Writer}
 use Rattle.writer.specs.declared.state.Answer.the-variants.{Refused, Done}
-use Rattle.writer.specs.State.{isPart, impossible}
+use Rattle.writer.specs.State.{isPart, impossible, openState}
 use Rattle.writer.specs.Answers.{Left, left}
 
 -- the number comes next; with no last number none does
@@ -40,10 +39,6 @@ openFaults w n t long =
 
 unfoldable pub openFault : Writer → ℕ → Settings → ℕ → ℕ
 openFault w n t long = lowestOf (openFaults w n t long)
-
--- the state of an opened line, at its first word; an unfinished block stays
-abbrev pub openState : Writer → ℕ → Settings → Writer
-openState w n t = record { system = w .system; mode = w .mode; last = Number n; settings = t; place = At 0; rest = w .rest }
 
 -- Opening writes L words, the payload all 200h.
 unfoldable pub openWords : ℕ → Bool → Bool → ℕ → Settings → List ℕ

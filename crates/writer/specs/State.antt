@@ -3,9 +3,10 @@
 use Prim.Native.Nat.{ℕ, _+_}
 use mathlib.Core.Bool.{Bool, true, false, _||_}
 use lib.Dec.{ltb}
-use Rattle.course.specs.declared.Last.the-variants.{Unknown}
+use Rattle.course.specs.declared.Last.the-variants.{Unknown, Number}
 use Rattle.course.specs.declared.Place.{Place}
-use Rattle.course.specs.declared.Place.the-variants.{Shut}
+use Rattle.course.specs.declared.Place.the-variants.{Shut, At}
+use Rattle.line.specs.declared.settings.Settings.{Settings}
 use Rattle.line.specs.Settings.{noSettings}
 use Rattle.line.specs.Systems.{systemOf}
 use Rattle.course.specs.Course.{impossibleAfter, blocksEnd}
@@ -42,6 +43,10 @@ impossible w = impossibleAfter (w .system) (w .last) (w .settings) (w .place) (i
 -- how many words of the open line's area blocks may stand in
 abbrev pub endIn : Writer → ℕ
 endIn w = blocksEnd (systemOf (w .system) .payload) (w .settings .block) (w .settings .flag)
+
+-- the state of an opened line, at its first word; an unfinished block stays
+abbrev pub openState : Writer → ℕ → Settings → Writer
+openState w n t = record { system = w .system; mode = w .mode; last = Number n; settings = t; place = At 0; rest = w .rest }
 
 -- the state with another place and rest
 abbrev pub moved : Writer → Place → Rest → Writer

@@ -8,7 +8,7 @@ use course::Place;
 use line::check;
 use line::systems;
 ghost use mathlib.Core.Path.{_≡_};
-ghost use mathlib.Core.Bool.{false};
+ghost use mathlib.Core.Bool.{true, false};
 ghost use Prim.Native.Nat.{_+_, _≤_, _<_};
 ghost use lib.Dec.{eqb, ltb};
 ghost use lib.ListN.{length};
@@ -142,57 +142,37 @@ fn lay_place(w: Writer, kind: u16, values: &[u16], line: &mut [u16]) -> Addition
     ensures { λ r. ⌜ added (r .answer) (r .state) (now (line .exit)) ≡ adding w (now (line .entry)) kind (now (values .entry)) ⌝ }
 {
     let s = systems::system_of(w.system);
-    let settings = w.settings;
-    let last = w.last;
     let at = w.place;
     let place = course::place_of(at);
     let k = values.len() + 1;
     let a = s.length - s.payload + place;
     let e = a + k;
     block::lay_fixed(w.mode, kind, values, &mut line[a..e]);
-    let state = Writer {
-        system: w.system,
-        mode: w.mode,
-        last: last,
-        settings: settings,
-        place: Place::At(place + k),
-        rest: Rest::Whole,
-    };
     Addition {
         answer: Laid::Finished,
-        state: state,
+        state: state::moved(w, Place::At(place + k), Rest::Whole),
     }
 }
 
-// As much of the block as fits.
+// As much of a variable block as fits: it has n+7 words.
 fn lay_part(w: Writer, kind: u16, values: &[u16], line: &mut [u16]) -> Addition
-    requires { ⌜ addFault w (length (now line)) kind (now values) ≡ 0 ⌝ }
+    requires { ⌜ (addFault w (length (now line)) kind (now values) ≡ 0) × (isVariable (w .settings .block) ≡ true) ⌝ }
     ensures { λ r. ⌜ added (r .answer) (r .state) (now (line .exit)) ≡ adding w (now (line .entry)) kind (now (values .entry)) ⌝ }
 {
     let s = systems::system_of(w.system);
-    let settings = w.settings;
-    let last = w.last;
     let at = w.place;
     let rest = w.rest;
     let place = course::place_of(at);
     let laid = state::laid_of(rest);
-    let left = block::total(settings.block, values.len()) - laid;
+    let left = values.len() + 7 - laid;
     let k = lists::at_most(state::end_in(w) - place, left);
     let a = s.length - s.payload + place;
     let e = a + k;
-    block::lay_words(settings.block, w.mode, kind, values, laid, &mut line[a..e]);
+    block::lay_words(w.mode, kind, values, laid, &mut line[a..e]);
     let after = rest_after(left, k, kind, values.len(), laid);
-    let state = Writer {
-        system: w.system,
-        mode: w.mode,
-        last: last,
-        settings: settings,
-        place: Place::At(place + k),
-        rest: after,
-    };
     Addition {
         answer: told(left, k),
-        state: state,
+        state: state::moved(w, Place::At(place + k), after),
     }
 }
 

@@ -55,20 +55,10 @@ pub fn close_line(w: Writer, line: &mut [u16]) -> Reply
         };
     }
     let s = systems::system_of(w.system);
-    let settings = w.settings;
-    let last = w.last;
     let rest = w.rest;
-    seal(s, settings.flag, line);
-    let state = Writer {
-        system: w.system,
-        mode: w.mode,
-        last: last,
-        settings: settings,
-        place: Place::Shut,
-        rest: rest,
-    };
+    seal(s, w.settings.flag, line);
     Reply {
         answer: Answer::Done,
-        state: state,
+        state: state::moved(w, Place::Shut, rest),
     }
 }

@@ -4,7 +4,6 @@ use crate::state;
 use crate::state::Answer;
 use crate::state::Writer;
 use course::Last;
-use course::Place;
 use line::check;
 use line::settings;
 use line::settings::Settings;
@@ -20,7 +19,7 @@ ghost use Rattle.line.specs.Header.{headerWords};
 ghost use Rattle.line.specs.Layout.{gapWords};
 ghost use Rattle.writer.specs.Answers.{answerNumbers, left};
 ghost use Rattle.writer.specs.Numbers.{answersBy};
-ghost use Rattle.writer.specs.Opening.{isNext, openBlocked, openFault, openState, openWords, opening};
+ghost use Rattle.writer.specs.Opening.{isNext, openBlocked, openFault, openWords, opening};
 
 // What opening and closing leave beside the line.
 pub struct Reply {
@@ -118,17 +117,8 @@ pub fn open_line(w: Writer, f: bool, v: bool, n: u16, t: Settings, line: &mut [u
         };
     }
     put_line(w.system, f, v, n, t, line);
-    let rest = w.rest;
-    let state = Writer {
-        system: w.system,
-        mode: w.mode,
-        last: Last::Number(n),
-        settings: t,
-        place: Place::At(0),
-        rest: rest,
-    };
     Reply {
         answer: Answer::Done,
-        state: state,
+        state: state::opened(w, n, t),
     }
 }

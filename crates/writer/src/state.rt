@@ -4,7 +4,7 @@ use course::Place;
 use line::settings;
 use line::settings::Settings;
 ghost use mathlib.Core.Path.{_≡_};
-ghost use Rattle.writer.specs.State.{isPart, laidOf, fresh, misshapen, impossible, endIn};
+ghost use Rattle.writer.specs.State.{isPart, laidOf, fresh, misshapen, impossible, endIn, openState, moved};
 
 // An unfinished block: its type, n and the words laid (1 to n+6).
 pub enum Rest {
@@ -46,6 +46,37 @@ pub fn fresh_writer(system: u8, mode: u8) -> Writer
         settings: none,
         place: Place::Shut,
         rest: Rest::Whole,
+    }
+}
+
+// The state of an opened line, at its first word.
+pub(crate) fn opened(w: Writer, n: u16, t: Settings) -> Writer
+    ensures { λ r. ⌜ r ≡ openState w n t ⌝ }
+{
+    let rest = w.rest;
+    Writer {
+        system: w.system,
+        mode: w.mode,
+        last: Last::Number(n),
+        settings: t,
+        place: Place::At(0),
+        rest: rest,
+    }
+}
+
+// The state with another place and rest.
+pub(crate) fn moved(w: Writer, place: Place, rest: Rest) -> Writer
+    ensures { λ r. ⌜ r ≡ moved w place rest ⌝ }
+{
+    let last = w.last;
+    let settings = w.settings;
+    Writer {
+        system: w.system,
+        mode: w.mode,
+        last: last,
+        settings: settings,
+        place: place,
+        rest: rest,
     }
 }
 

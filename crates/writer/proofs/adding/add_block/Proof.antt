@@ -27,7 +27,7 @@ is-variable-requires : tie.Need-is-variable-requires
 is-variable-requires c κs = search needs
 
 lay-part-requires : tie.Need-lay-part-requires
-lay-part-requires c κs = clear (c .before .before)
+lay-part-requires c κs = let v = c .before .before in (clear v, sym (v .is-variable .ensures) ∙ c .before .if2 .taken)
 
 same-length : tie.Need-same-length
 same-length c = search needs

@@ -1,49 +1,42 @@
 -- `writer::adding::lay_part` meets its contract. Assumes nothing.
-use mathlib.Core.Path.{_≡_, sym, ap, _∙_, subst}
+use mathlib.Core.Path.{sym, ap, _∙_, subst}
 use Prim.Native.Nat.{ℕ, _+_, _-_, _≤_, min}
 use native.Mathlib.Omega.{arith}
 use lib.ListN.{length}
 use Rattle.line.specs.declared.systems.System.{System}
-use Rattle.writer.specs.Adding.{addFault}
 use Rattle.writer.proofs.FillLaws.{part-most}
-use Rattle.writer.proofs.BlockLaws.{words-long}
+use Rattle.writer.proofs.BlockLaws.{count-variable}
 use Rattle.writer.proofs.Refusals.{CanAdd, can-add}
-use Rattle.writer.proofs.Calls.{Found, sizes, add-done}
+use Rattle.writer.proofs.Calls.{Found, sizes, part-done}
 use borrow.Author.Needs.{needs}
 use Rattle.writer.proofs.adding.lay_part.Statement.{statement}
 use Rattle.writer.proofs.adding.lay_part.Tie as tie
 
--- nothing was refused
-clear : (s : tie.After-system-of) →
-    let g = s .before .before .before .args in
-    addFault (g .w) (length (g .line .now)) (g .kind) (g .values .now) ≡ 0
-clear s = s .before .before .before .pre
-
 accepted : (s : tie.After-system-of) → let g = s .before .before .before .args in CanAdd (g .w) (g .line .now) (g .kind) (g .values .now)
-accepted s = let g = s .before .before .before .args in can-add (g .w) (g .line .now) (g .kind) (g .values .now) (clear s)
+accepted s = let g = s .before .before .before .args in can-add (g .w) (g .line .now) (g .kind) (g .values .now) (s .before .before .before .pre .0)
 
 -- the sizes once the number of words is known
 found : (y : tie.After-at-most) →
-    let t = y .before .before in
-    let d = t .before in
+    let d = y .before .before in
     let q = d .before in
-    let s = q .before .before in
+    let s = q .before in
     let g = s .before .before .before .args in
-    Found (g .w) (g .line .now) (g .kind) (g .values .now) (q .place-of .result) (d .laid-of .result) (t .total .result - d .laid-of .result) (y .at-most .result)
+    Found (g .w) (g .line .now) (g .kind) (g .values .now) (q .place-of .result) (d .laid-of .result) (length (g .values .now) + 7 - d .laid-of .result) (y .at-most .result)
     (s .system-of .result .length - s .system-of .result .payload + q .place-of .result)
 found y =
-    let t = y .before .before in
-    let d = t .before in
+    let d = y .before .before in
     let q = d .before in
-    let s = q .before .before in
+    let s = q .before in
+    let t = s .before .before .before in
     let p = q .place-of .result in
     let j = d .laid-of .result in
+    let n = length (t .args .values .now) in
     record {
-      clear = clear s;
+      clear = t .pre .0;
       place = q .place-of .ensures;
       laid = d .laid-of .ensures;
-      left = ap (λ (x : ℕ). x - j) (t .total .ensures);
-      now = y .at-most .ensures ∙ ap (λ (x : ℕ). min (x - p) (t .total .result - j)) (y .before .end-in .ensures);
+      left = ap (λ (x : ℕ). x - j) (sym (count-variable _ n (t .pre .1)));
+      now = y .at-most .ensures ∙ ap (λ (x : ℕ). min (x - p) (n + 7 - j)) (y .before .end-in .ensures);
       index = ap (λ (x : System). x .length - x .payload + p) (s .system-of .ensures);
     }
 
@@ -56,24 +49,27 @@ place-of-requires c κs = search needs
 laid-of-requires : tie.Need-laid-of-requires
 laid-of-requires c κs = search needs
 
-total-requires : tie.Need-total-requires
-total-requires c κs = accepted (c .before .before .before) .number
+add-left : tie.Need-add-left
+add-left c = omega (arith, accepted (c .before .before) .number)
 
 sub-left : tie.Need-sub-left
-sub-left c = omega (arith, accepted (c .before .before .before .before) .left, c .total .ensures, c .before .laid-of .ensures)
+sub-left c =
+    let s = c .before .before in
+    let t = s .before .before .before in
+    omega (arith, accepted s .left, count-variable (t .args .w .settings .block) (length (t .args .values .now)) (t .pre .1), c .laid-of .ensures)
 
 end-in-requires : tie.Need-end-in-requires
 end-in-requires c κs = search needs
 
 sub-at-most : tie.Need-sub-at-most
-sub-at-most c = omega (arith, accepted (c .before .before .before .before .before) .room, c .end-in .ensures, c .before .before .before .place-of .ensures)
+sub-at-most c = omega (arith, accepted (c .before .before .before) .room, c .end-in .ensures, c .before .before .place-of .ensures)
 
 at-most-requires : tie.Need-at-most-requires
 at-most-requires c κs = search needs
 
 sub-a : tie.Need-sub-a
 sub-a c =
-    let s = c .before .before .before .before .before .before .before in
+    let s = c .before .before .before .before .before in
     let e : s .system-of .result .payload ≤ s .system-of .result .length =
     subst (λ (x : System). x .payload ≤ x .length) (sym (s .system-of .ensures)) (omega (arith, accepted s .fit .row .room)) in
     omega (arith, e)
@@ -99,29 +95,33 @@ part-lay-words-end c = let z = sizes (found (c .before)) in omega (arith, z .wit
 lay-words-requires : tie.Need-lay-words-requires
 lay-words-requires c κs =
     let y = c .before .before in
-    let q = y .before .before .before .before in
-    let s = q .before .before in
-    let g = s .before .before .before .args in
+    let q = y .before .before .before in
+    let s = q .before in
+    let t = s .before .before .before in
     let a = s .system-of .result .length - s .system-of .result .payload + q .place-of .result in
-    rw (words-long (g .w .settings .block) (g .w .mode) (g .kind) (g .values .now))
-    (omega (arith, sizes (found y) .laid, part-most (g .line .now) a (y .at-most .result)))
+    omega (arith, sizes (found y) .laid, count-variable (t .args .w .settings .block) (length (t .args .values .now)) (t .pre .1), part-most (t .args .line .now) a (y .at-most .result))
 
 rest-after-requires : tie.Need-rest-after-requires
 rest-after-requires c κs = let z = sizes (found (c .before .before .before .before .before)) in (z .byte, z .number, omega (arith, z .laid, z .few))
 
-add-t18 : tie.Need-add-t18
-add-t18 c = search needs
-
 told-requires : tie.Need-told-requires
 told-requires c κs = search needs
+
+add-t15 : tie.Need-add-t15
+add-t15 c = search needs
+
+moved-requires : tie.Need-moved-requires
+moved-requires c κs = search needs
 
 same-length : tie.Need-same-length
 same-length c = search needs
 
 returns : tie.Need-returns
 returns c =
-    add-done (found (c .before .before .before .before .before .before .before)) _ _ _ (c .before .before .before .before .lay-words .ensures)
-    (c .before .rest-after .ensures) (c .told .ensures)
+    let y = c .before .before .before .before .before .before .before .before in
+    let t = y .before .before .before .before .before .before .before in
+    part-done (found y) (t .pre .1) _ _ _ _ (c .before .before .before .before .before .lay-words .ensures) (c .before .before .rest-after .ensures) (c .before .told .ensures)
+    (c .moved .ensures)
 
 pub lay-part-spec : {M : Type 1} → statement M
 lay-part-spec =
@@ -130,7 +130,7 @@ lay-part-spec =
     system-of-requires
     place-of-requires
     laid-of-requires
-    total-requires
+    add-left
     sub-left
     end-in-requires
     sub-at-most
@@ -144,7 +144,8 @@ lay-part-spec =
     part-lay-words-end
     lay-words-requires
     rest-after-requires
-    add-t18
     told-requires
+    add-t15
+    moved-requires
     same-length
     returns)

@@ -16,12 +16,12 @@ accepted s = let g = s .before .before .before .args in can-add (g .w) (g .line 
 
 -- the sizes: nothing is laid yet, and all words are laid now
 found : (q : tie.After-place-of) →
-    let s = q .before .before in
+    let s = q .before in
     let g = s .before .before .before .args in
     Found (g .w) (g .line .now) (g .kind) (g .values .now) (q .place-of .result) 0 (length (g .values .now) + 1) (length (g .values .now) + 1)
     (s .system-of .result .length - s .system-of .result .payload + q .place-of .result)
 found q =
-    let s = q .before .before in
+    let s = q .before in
     let t = s .before .before .before in
     let g = t .args in
     place-found (g .w) (g .line .now) (g .kind) (g .values .now) (t .pre .0) (t .pre .1) _ _ (q .place-of .ensures)
@@ -38,7 +38,7 @@ add-k c = search needs
 
 sub-a : tie.Need-sub-a
 sub-a c =
-    let s = c .before .before .before in
+    let s = c .before .before in
     let e : s .system-of .result .payload ≤ s .system-of .result .length =
     subst (λ (x : System). x .payload ≤ x .length) (sym (s .system-of .ensures)) (omega (arith, accepted s .fit .row .room)) in
     omega (arith, e)
@@ -64,21 +64,24 @@ part-lay-fixed-end c = let z = sizes (found (c .before)) in omega (arith, z .wit
 lay-fixed-requires : tie.Need-lay-fixed-requires
 lay-fixed-requires c κs =
     let q = c .before .before in
-    let g = q .before .before .before .before .before .args in
+    let g = q .before .before .before .before .args in
     part-whole (g .line .now) _ _ (sizes (found q) .within)
 
-add-t14 : tie.Need-add-t14
-add-t14 c = let z = sizes (found (c .before .before .before .before .before)) in omega (arith, z .ends)
+add-t11 : tie.Need-add-t11
+add-t11 c = let z = sizes (found (c .before .before .before .before .before)) in omega (arith, z .ends)
+
+moved-requires : tie.Need-moved-requires
+moved-requires c κs = search needs
 
 same-length : tie.Need-same-length
 same-length c = search needs
 
 returns : tie.Need-returns
 returns c =
-    let l = c .before .before in
+    let l = c .before .before .before in
     let q = l .before .before .before in
-    let t = q .before .before .before .before .before in
-    place-done (found q) (t .pre .1) _ (l .lay-fixed .ensures)
+    let t = q .before .before .before .before in
+    place-done (found q) (t .pre .1) _ _ (l .lay-fixed .ensures) (c .moved .ensures)
 
 pub lay-place-spec : {M : Type 1} → statement M
 lay-place-spec =
@@ -95,6 +98,7 @@ lay-place-spec =
     part-lay-fixed-start
     part-lay-fixed-end
     lay-fixed-requires
-    add-t14
+    add-t11
+    moved-requires
     same-length
     returns)

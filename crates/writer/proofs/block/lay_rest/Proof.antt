@@ -1,14 +1,18 @@
 -- `writer::block::lay_rest` meets its contract. Assumes nothing.
-use mathlib.Core.Path.{sym, ap, _∙_}
-use mathlib.Core.List.{map}
-use Prim.Native.Nat.{ℕ, min}
+use mathlib.Core.Path.{_≡_, sym, ap, _∙_}
+use mathlib.Core.List.{[], _∷_, map}
+use Prim.Native.Nat.{ℕ, _-_, min}
 use lib.ListN.{length, take, drop, length-map}
 use Rattle.words.specs.Modes.{wordOf}
-use Rattle.writer.specs.Cuts.{tailIn}
+use Rattle.words.specs.Class.{endCode}
 use Rattle.writer.proofs.FillLaws.{part-map, front-long, part-long, second-in, laid-by-two}
 use borrow.Author.Needs.{needs}
 use Rattle.writer.proofs.block.lay_rest.Statement.{statement}
 use Rattle.writer.proofs.block.lay_rest.Tie as tie
+
+-- how many values are laid
+some : (m : tie.After-at-most) → let a = m .before .before .before .before .args in m .at-most .result ≡ min (length (a .out .now)) (length (a .values .now) - a .j)
+some m = let a = m .before .before .before .before .args in m .at-most .ensures ∙ ap (min (length (a .out .now))) (m .before .less .ensures)
 
 less-requires : tie.Need-less-requires
 less-requires c κs = search needs
@@ -41,7 +45,7 @@ slice-aggregate-put-values : tie.Need-slice-aggregate-put-values
 slice-aggregate-put-values c =
     let m = c .before .before .before in
     let a = m .before .before .before .before .args in
-    sym (front-long (length (a .values .now)) (a .j) (m .at-most .result) (a .out .now) (m .at-most .ensures ∙ ap (min (length (a .out .now))) (m .before .less .ensures)))
+    sym (front-long (length (a .values .now)) (a .j) (m .at-most .result) (a .out .now) (some m))
 
 put-values-requires : tie.Need-put-values-requires
 put-values-requires c κs =
@@ -49,26 +53,29 @@ put-values-requires c κs =
     let m = q .before in
     let a = m .before .before .before .before .args in
     part-long (a .j) (q .at-most2 .result) (m .at-most .result) (a .out .now) (a .values .now)
-    (m .at-most .ensures ∙ ap (min (length (a .out .now))) (m .before .less .ensures)) (q .at-most2 .ensures)
+    (some m) (q .at-most2 .ensures)
 
 less-requires-2 : tie.Need-less-requires-2
 less-requires-2 c κs = search needs
 
-mul-lay-tail : tie.Need-mul-lay-tail
-mul-lay-tail c = search needs
+slice-aggregate-copy-from : tie.Need-slice-aggregate-copy-from
+slice-aggregate-copy-from c = search needs
 
-sub-lay-tail : tie.Need-sub-lay-tail
-sub-lay-tail c = search needs
+mul-copy-from : tie.Need-mul-copy-from
+mul-copy-from c = search needs
 
-part-lay-tail-start : tie.Need-part-lay-tail-start
-part-lay-tail-start c = search needs
+sub-copy-from : tie.Need-sub-copy-from
+sub-copy-from c = search needs
 
-part-lay-tail-end : tie.Need-part-lay-tail-end
-part-lay-tail-end c = search needs
+part-copy-from-start : tie.Need-part-copy-from-start
+part-copy-from-start c = search needs
 
-lay-tail-requires : tie.Need-lay-tail-requires
-lay-tail-requires c κs =
-    let p = c .before .before .before .before in
+part-copy-from-end : tie.Need-part-copy-from-end
+part-copy-from-end c = search needs
+
+copy-from-requires : tie.Need-copy-from-requires
+copy-from-requires c κs =
+    let p = c .before .before .before .before .before in
     let q = p .before .before .before in
     let m = q .before in
     let a = m .before .before .before .before .args in
@@ -76,15 +83,14 @@ lay-tail-requires c κs =
     let v = a .values .now in
     let k = m .at-most .result in
     let is = p .put-values .ensures ∙ part-map f (q .at-most2 .result) k v ∙ ap (λ (i : ℕ). take k (drop i (map f v))) (q .at-most2 .ensures) in
-    let some = m .at-most .ensures ∙ ap (min (length (a .out .now))) (m .before .less .ensures) in
-    second-in (a .j) (length v) k (map f v) (tailIn (a .block)) (a .out .now) _ (length-map v f) some is _ _ (c .before .less2 .ensures) (m .before .before .before .before .pre)
+    second-in (a .j) (length v) k (map f v) (endCode ∷ []) (a .out .now) _ (length-map v f) (some m) is _ _ (c .before .before .less2 .ensures) (m .before .before .before .before .pre)
 
 same-length : tie.Need-same-length
 same-length c = search needs
 
 returns : tie.Need-returns
 returns c =
-    let p = c .before .before .before .before .before .before .before in
+    let p = c .before .before .before .before .before .before .before .before in
     let q = p .before .before .before in
     let m = q .before in
     let a = m .before .before .before .before .args in
@@ -92,8 +98,7 @@ returns c =
     let v = a .values .now in
     let k = m .at-most .result in
     let is = p .put-values .ensures ∙ part-map f (q .at-most2 .result) k v ∙ ap (λ (i : ℕ). take k (drop i (map f v))) (q .at-most2 .ensures) in
-    let some = m .at-most .ensures ∙ ap (min (length (a .out .now))) (m .before .less .ensures) in
-    laid-by-two (a .j) (length v) k (map f v) (tailIn (a .block)) (a .out .now) _ (length-map v f) some is _ _ (c .before .before .before .before .less2 .ensures) (c .before .before .lay-tail .ensures)
+    laid-by-two (a .j) (length v) k (map f v) (endCode ∷ []) (a .out .now) _ (length-map v f) (some m) is _ _ (c .before .before .before .before .before .less2 .ensures) (c .before .before .copy-from .ensures)
 
 pub lay-rest-spec : {M : Type 1} → statement M
 lay-rest-spec =
@@ -111,10 +116,11 @@ lay-rest-spec =
     slice-aggregate-put-values
     put-values-requires
     less-requires-2
-    mul-lay-tail
-    sub-lay-tail
-    part-lay-tail-start
-    part-lay-tail-end
-    lay-tail-requires
+    slice-aggregate-copy-from
+    mul-copy-from
+    sub-copy-from
+    part-copy-from-start
+    part-copy-from-end
+    copy-from-requires
     same-length
     returns)

@@ -1,19 +1,31 @@
 -- `writer::block::lay_words` meets its contract. Assumes nothing.
-use mathlib.Core.Path.{sym, ap, _∙_}
-use mathlib.Core.List.{List, _++_, map}
-use Prim.Native.Nat.{ℕ, _+_, _≤_, min}
+use mathlib.Core.Path.{_≡_, refl, sym, ap, _∙_}
+use mathlib.Core.List.{List, [], _∷_, _++_, map}
+use Prim.Native.Nat.{ℕ, _+_, _-_, _≤_, min}
 use native.Mathlib.Omega.{arith}
-use lib.ListN.{length, take, drop}
+use lib.ListN.{length}
+use Rattle.words.specs.Forms.{byteWord}
 use Rattle.words.specs.Modes.{wordOf}
-use Rattle.writer.specs.Cuts.{headIn, tailIn}
+use Rattle.words.specs.Class.{separator, endCode}
+use Rattle.writer.specs.Block.{countWords, blockWords}
 use Rattle.writer.proofs.FillLaws.{front-long, front-in, front-is, second-in, laid-by-two}
-use Rattle.writer.proofs.BlockLaws.{head-long, words-are, words-long}
 use borrow.Author.Needs.{needs}
 use Rattle.writer.proofs.block.lay_words.Statement.{statement}
 use Rattle.writer.proofs.block.lay_words.Tie as tie
 
-head-length-requires : tie.Need-head-length-requires
-head-length-requires c κs = search needs
+abbrev head : ℕ → List ℕ → List ℕ
+head kind vs = separator ∷ byteWord kind ∷ countWords (length vs)
+
+abbrev rest : ℕ → List ℕ → List ℕ
+rest mode vs = map (wordOf mode) vs ++ (endCode ∷ [])
+
+head-six : (kind : ℕ) (vs : List ℕ) → length (head kind vs) ≡ 6
+unfolding countWords
+head-six kind vs = refl
+
+-- how many words of the head are laid
+some : (m : tie.After-at-most) → let a = m .before .before .before .before .args in m .at-most .result ≡ min (length (a .out .now)) (6 - a .j)
+some m = let a = m .before .before .before .before .args in m .at-most .ensures ∙ ap (min (length (a .out .now))) (m .before .less .ensures)
 
 less-requires : tie.Need-less-requires
 less-requires c κs = search needs
@@ -30,18 +42,15 @@ slice-relend-prefix-lay-head c = search needs
 slice-aggregate-lay-head : tie.Need-slice-aggregate-lay-head
 slice-aggregate-lay-head c =
     let m = c .before .before in
-    let a = m .before .before .before .before .before .args in
-    sym (front-long (m .before .before .head-length .result) (a .j) (m .at-most .result) (a .out .now) (m .at-most .ensures ∙ ap (min (length (a .out .now))) (m .before .less .ensures)))
+    let a = m .before .before .before .before .args in
+    sym (front-long 6 (a .j) (m .at-most .result) (a .out .now) (some m))
 
 lay-head-requires : tie.Need-lay-head-requires
 lay-head-requires c κs =
     let q = c .before in
     let m = q .before in
-    let l = m .before .before in
-    let a = l .before .before .before .args in
-    rw (head-long (a .block) (a .kind) (length (a .values .now)) ∙ sym (l .head-length .ensures))
-    (front-in (a .j) (l .head-length .result) (q .at-most2 .result) (m .at-most .result) (a .out .now)
-    (m .at-most .ensures ∙ ap (min (length (a .out .now))) (m .before .less .ensures)) (q .at-most2 .ensures))
+    let a = m .before .before .before .before .args in
+    front-in (a .j) 6 (q .at-most2 .result) (m .at-most .result) (a .out .now) (some m) (q .at-most2 .ensures)
 
 less-requires-2 : tie.Need-less-requires-2
 less-requires-2 c κs = search needs
@@ -63,46 +72,34 @@ lay-rest-requires c κs =
     let p = c .before .before .before .before in
     let q = p .before .before in
     let m = q .before in
-    let l = m .before .before in
-    let a = l .before .before .before .args in
+    let s = m .before .before .before .before in
+    let a = s .args in
     let v = a .values .now in
-    let n = l .head-length .result in
     let k = m .at-most .result in
-    let head = headIn (a .block) (a .kind) (length v) in
-    let rest = map (wordOf (a .mode)) v ++ tailIn (a .block) in
-    let long = head-long (a .block) (a .kind) (length v) ∙ sym (l .head-length .ensures) in
-    let some = m .at-most .ensures ∙ ap (min (length (a .out .now))) (m .before .less .ensures) in
-    let is = front-is (a .j) n _ k head (a .out .now) _ some (q .at-most2 .ensures) (p .lay-head .ensures) in
-    let all : a .j + length (a .out .now) ≤ n + (length v + length (tailIn (a .block))) =
-    omega (arith, l .before .before .before .pre, words-long (a .block) (a .mode) (a .kind) v, l .head-length .ensures) in
-    second-in (a .j) n k head rest (a .out .now) _ long some is _ _ (c .before .less2 .ensures) all
+    let is = front-is (a .j) 6 _ k (head (a .kind) v) (a .out .now) _ (some m) (q .at-most2 .ensures) (p .lay-head .ensures) in
+    let all : a .j + length (a .out .now) ≤ 6 + (length v + 1) = omega (arith, s .pre) in
+    second-in (a .j) 6 k (head (a .kind) v) (rest (a .mode) v) (a .out .now) _ (head-six (a .kind) v) (some m) is _ _ (c .before .less2 .ensures) all
 
 same-length : tie.Need-same-length
 same-length c = search needs
 
 returns : tie.Need-returns
+unfolding blockWords countWords
 returns c =
     let p = c .before .before .before .before .before .before .before in
     let q = p .before .before in
     let m = q .before in
-    let l = m .before .before in
-    let a = l .before .before .before .args in
+    let a = m .before .before .before .before .args in
     let v = a .values .now in
-    let n = l .head-length .result in
     let k = m .at-most .result in
-    let head = headIn (a .block) (a .kind) (length v) in
-    let rest = map (wordOf (a .mode)) v ++ tailIn (a .block) in
-    let long = head-long (a .block) (a .kind) (length v) ∙ sym (l .head-length .ensures) in
-    let some = m .at-most .ensures ∙ ap (min (length (a .out .now))) (m .before .less .ensures) in
-    let is = front-is (a .j) n _ k head (a .out .now) _ some (q .at-most2 .ensures) (p .lay-head .ensures) in
-    laid-by-two (a .j) n k head rest (a .out .now) _ long some is _ _ (c .before .before .before .before .less2 .ensures) (c .before .before .lay-rest .ensures)
-    ∙ ap (λ (l : List ℕ). take (length (a .out .now)) (drop (a .j) l)) (sym (words-are (a .block) (a .mode) (a .kind) v))
+    let is = front-is (a .j) 6 _ k (head (a .kind) v) (a .out .now) _ (some m) (q .at-most2 .ensures) (p .lay-head .ensures) in
+    laid-by-two (a .j) 6 k (head (a .kind) v) (rest (a .mode) v) (a .out .now) _ (head-six (a .kind) v) (some m) is _ _ (c .before .before .before .before .less2 .ensures)
+    (c .before .before .lay-rest .ensures)
 
 pub lay-words-spec : {M : Type 1} → statement M
 lay-words-spec =
     tie.close
     (tie.spec
-    head-length-requires
     less-requires
     at-most-requires
     at-most-requires-2

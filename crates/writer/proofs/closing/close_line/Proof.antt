@@ -25,10 +25,13 @@ system-of-requires c κs = search needs
 
 seal-requires : tie.Need-seal-requires
 seal-requires c κs =
-    let a = c .before .before .before .before .before .before .args in
-    let fit = can-close (a .w) (a .line .now) (sym (c .before .before .before .before .close-fault .ensures) ∙ c .before .before .before .if1 .left) .fit in
-    subst (λ (s : System). (s .payload + 61 ≤ s .length) × (2 ≤ s .payload) × (s .length ≡ length (a .line .now))) (sym (c .before .before .system-of .ensures))
+    let a = c .before .before .before .before .before .args in
+    let fit = can-close (a .w) (a .line .now) (sym (c .before .before .before .close-fault .ensures) ∙ c .before .before .if1 .left) .fit in
+    subst (λ (s : System). (s .payload + 61 ≤ s .length) × (2 ≤ s .payload) × (s .length ≡ length (a .line .now))) (sym (c .before .system-of .ensures))
     (fit .row .room, fit .row .area, fit .long)
+
+moved-requires : tie.Need-moved-requires
+moved-requires c κs = search needs
 
 same-length : tie.Need-same-length
 same-length c = search needs
@@ -37,10 +40,10 @@ returns-2 : tie.Need-returns-2
 returns-2 c =
     let a = c .before .before .before .before .before .before .before .before .before .args in
     closes-numbered (a .w) (a .line .now) _
-    (close-done (a .w) (a .line .now) _ (c .before .before .before .before .before .before .before .close-fault .ensures) (c .before .before .before .before .before .before .if1 .left) _
-    (c .before .before .seal .ensures ∙ ap (λ (s : System). sealed s (a .w .settings .flag) (a .line .now)) (c .before .before .before .before .before .system-of .ensures)))
+    (close-done (a .w) (a .line .now) _ (c .before .before .before .before .before .before .before .close-fault .ensures) (c .before .before .before .before .before .before .if1 .left) _ _
+    (c .moved .ensures) (c .before .before .before .seal .ensures ∙ ap (λ (s : System). sealed s (a .w .settings .flag) (a .line .now)) (c .before .before .before .before .before .system-of .ensures)))
 
 pub close-line-spec : {M : Type 1} → statement M
 close-line-spec =
     tie.close
-    (tie.spec close-fault-requires returns system-of-requires seal-requires same-length returns-2)
+    (tie.spec close-fault-requires returns system-of-requires seal-requires moved-requires same-length returns-2)

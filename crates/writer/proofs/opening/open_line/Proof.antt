@@ -24,16 +24,19 @@ put-line-requires c κs =
     let k = fitting (a .w .system) (a .w .mode) (a .line .now) (open-fits (a .w) (a .n) (a .t) _ fault) in
     (k .row .room, sym (k .long))
 
+opened-requires : tie.Need-opened-requires
+opened-requires c κs = search needs
+
 same-length : tie.Need-same-length
 same-length c = search needs
 
 returns-2 : tie.Need-returns-2
 returns-2 c =
-    let a = c .before .before .before .before .before .before .before .args in
-    let fault = c .before .before .before .before .before .open-fault in
+    let a = c .before .before .before .before .before .before .before .before .args in
+    let fault = c .before .before .before .before .before .before .open-fault in
     opens-numbered (a .w) (a .f) (a .v) (a .n) (a .t) (a .line .now) _
-    (opened (a .w) (a .f) (a .v) (a .n) (a .t) (a .line .now) _ (fault .result) (fault .ensures) (c .before .before .before .before .if1 .left) (c .before .before .put-line .ensures))
+    (opened (a .w) (a .f) (a .v) (a .n) (a .t) (a .line .now) _ _ (fault .result) (fault .ensures) (c .before .before .before .before .before .if1 .left) (c .before .before .before .put-line .ensures) (c .opened .ensures))
 
 pub open-line-spec : {M : Type 1} → statement M
 open-line-spec =
-    tie.close (tie.spec open-fault-requires returns put-line-requires same-length returns-2)
+    tie.close (tie.spec open-fault-requires returns put-line-requires opened-requires same-length returns-2)
