@@ -1,6 +1,6 @@
 -- Laws of the CRC: only 18 bits of a register count, over an append, linear, and its register below 2^18.
 -- Assumes nothing.
-use mathlib.Core.Path.{_≡_, refl, sym, ap, ap₂, _∙_, subst}
+use mathlib.Core.Path.{_≡_, refl, sym, ap, ap₂, _∙_}
 use mathlib.Core.List.{List, [], _∷_, _++_}
 use Prim.Native.Nat.{ℕ, zero, suc, _+_, _*_, _/_, _%_, _^_, _<_}
 use native.Mathlib.Nat.{lt-of-le-of-lt, div-le-self, mod-lt, mod-mod, mod-eq-of-lt}
@@ -16,7 +16,7 @@ use Rattle.words.specs.Crc.{register, lowBits, bitsOf, crcBit, crcBits, 
 use Rattle.words.proofs.Xor.{below2, odd-lt, xor-half, xor-odd, xor-cross, xor-times}
 
 -- ---- only 18 bits of a register count
-bit-register : (c b : ℕ) → crcBit (register c) b ≡ crcBit c b
+pub bit-register : (c b : ℕ) → crcBit (register c) b ≡ crcBit c b
 unfolding crcBit
 bit-register c b = ap₂ (λ (x y : ℕ). bitXor (x / 2) (bitXor b y * taps)) (mod-mod c (2 ^ 18)) (mod-mod-pow c 17 1)
 
