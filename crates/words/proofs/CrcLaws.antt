@@ -1,35 +1,53 @@
--- Laws of the CRC: over an append, linear, and its register below 2^18.
+-- Laws of the CRC: only 18 bits of a register count, over an append, linear, and its register below 2^18.
 -- Assumes nothing.
-use mathlib.Core.Path.{_≡_, refl, sym, ap, ap₂, _∙_, subst}
+use mathlib.Core.Path.{_≡_, refl, sym, ap, ap₂, _∙_}
 use mathlib.Core.List.{List, [], _∷_, _++_}
 use Prim.Native.Nat.{ℕ, zero, suc, _+_, _*_, _/_, _%_, _^_, _<_}
-use native.Mathlib.Nat.{lt-of-le-of-lt, div-le-self}
+use native.Mathlib.Nat.{lt-of-le-of-lt, div-le-self, mod-lt, mod-mod, mod-eq-of-lt}
 use native.Mathlib.Omega.{arith}
 use lib.Dec.{lit<}
-use lib.Bits.{bitXor, xor-lt}
+use lib.Pow.{mod-mod-pow}
+use lib.Bits.{bitXor, xor-lt, xor-mod}
 use lib.ListN.{length, drop, getD, take-append-drop}
 use lib.Seq.{drop-drop}
 use Rattle.lists.specs.Lists.{part}
 use Rattle.lists.proofs.Loops.{next-drop}
-use Rattle.words.specs.Crc.{lowBits, bitsOf, crcBit, crcBits, crcOf, taps}
+use Rattle.words.specs.Crc.{register, lowBits, bitsOf, crcBit, crcBits, crcOf, taps}
 use Rattle.words.proofs.Xor.{below2, odd-lt, xor-half, xor-odd, xor-cross, xor-times}
+
+-- ---- only 18 bits of a register count
+pub bit-register : (c b : ℕ) → crcBit (register c) b ≡ crcBit c b
+unfolding crcBit
+bit-register c b = ap₂ (λ (x y : ℕ). bitXor (x / 2) (bitXor b y * taps)) (mod-mod c (2 ^ 18)) (mod-mod-pow c 17 1)
+
+bits-register : (c : ℕ) (bs : List ℕ) → crcBits (register c) bs ≡ crcBits c bs
+unfolding crcBits
+bits-register c [] = mod-mod c (2 ^ 18)
+bits-register c (b ∷ bs) = ap (λ (x : ℕ). crcBits x bs) (bit-register c b)
+
+pub crc-register : (c : ℕ) (ws : List ℕ) → crcOf (register c) ws ≡ crcOf c ws
+unfolding crcOf
+crc-register c ws = bits-register c (bitsOf ws)
 
 -- ---- over a list
 pub bits-append : (c : ℕ) (xs ys : List ℕ) → crcBits c (xs ++ ys) ≡ crcBits (crcBits c xs) ys
 unfolding crcBits
-bits-append c [] ys = refl
+bits-append c [] ys = sym (bits-register c ys)
 bits-append c (x ∷ xs) ys = bits-append (crcBit c x) xs ys
 
-pub crc-nil : (c : ℕ) → crcOf c [] ≡ c
+pub crc-nil : (c : ℕ) → crcOf c [] ≡ register c
 unfolding crcOf
 crc-nil c = refl
+
+pub crc-none : (c : ℕ) → c < 2 ^ 18 → crcOf c [] ≡ c
+crc-none c h = crc-nil c ∙ mod-eq-of-lt h
 
 pub crc-cons : (c w : ℕ) (ws : List ℕ) → crcOf c (w ∷ ws) ≡ crcOf (crcBits c (lowBits 10 w)) ws
 unfolding crcOf
 crc-cons c w ws = bits-append c (lowBits 10 w) (bitsOf ws)
 
 pub crc-append : (c : ℕ) (xs ys : List ℕ) → crcOf c (xs ++ ys) ≡ crcOf (crcOf c xs) ys
-crc-append c [] ys = ap (λ (x : ℕ). crcOf x ys) (sym (crc-nil c))
+crc-append c [] ys = sym (ap (λ (x : ℕ). crcOf x ys) (crc-nil c) ∙ crc-register c ys)
 crc-append c (x ∷ xs) ys =
     crc-cons c x (xs ++ ys) ∙ crc-append (crcBits c (lowBits 10 x)) xs ys ∙ ap (λ (d : ℕ). crcOf d ys) (sym (crc-cons c x xs))
 
@@ -47,15 +65,17 @@ crc-part x i n s =
 pub bit-linear : (c d a b : ℕ) → a < 2 → b < 2 → crcBit (bitXor c d) (bitXor a b) ≡ bitXor (crcBit c a) (crcBit d b)
 unfolding crcBit
 bit-linear c d a b ha hb =
-    ap₂ (λ (x y : ℕ). bitXor x (bitXor (bitXor a b) y * taps)) (xor-half c d) (xor-odd c d)
-    ∙ ap (λ (x : ℕ). bitXor (bitXor (c / 2) (d / 2)) (x * taps)) (xor-cross a b (c % 2) (d % 2))
-    ∙ ap (bitXor (bitXor (c / 2) (d / 2)))
+    let p = register c / 2 in
+    let q = register d / 2 in
+    ap₂ (λ (x y : ℕ). bitXor x (bitXor (bitXor a b) y * taps)) (ap (λ (x : ℕ). x / 2) (xor-mod c d 18) ∙ xor-half (register c) (register d)) (xor-odd c d)
+    ∙ ap (λ (x : ℕ). bitXor (bitXor p q) (x * taps)) (xor-cross a b (c % 2) (d % 2))
+    ∙ ap (bitXor (bitXor p q))
     (xor-times taps (bitXor a (c % 2)) (bitXor b (d % 2)) (xor-lt 1 a (c % 2) ha (odd-lt c)) (xor-lt 1 b (d % 2) hb (odd-lt d)))
-    ∙ xor-cross (c / 2) (d / 2) (bitXor a (c % 2) * taps) (bitXor b (d % 2) * taps)
+    ∙ xor-cross p q (bitXor a (c % 2) * taps) (bitXor b (d % 2) * taps)
 
 pub word-linear : (n c d w v : ℕ) → crcBits (bitXor c d) (lowBits n (bitXor w v)) ≡ bitXor (crcBits c (lowBits n w)) (crcBits d (lowBits n v))
 unfolding crcBits lowBits
-word-linear zero c d w v = refl
+word-linear zero c d w v = xor-mod c d 18
 word-linear (suc n) c d w v =
     ap₂ (λ (x y : ℕ). crcBits x (lowBits n y)) (ap (crcBit (bitXor c d)) (xor-odd w v) ∙ bit-linear c d (w % 2) (v % 2) (odd-lt w) (odd-lt v)) (xor-half w v)
     ∙ word-linear n (crcBit c (w % 2)) (crcBit d (v % 2)) (w / 2) (v / 2)
@@ -67,7 +87,7 @@ xorWords (w ∷ ws) [] = []
 xorWords (w ∷ ws) (v ∷ vs) = bitXor w v ∷ xorWords ws vs
 
 pub crc-linear : (c d : ℕ) (ws vs : List ℕ) → length ws ≡ length vs → crcOf (bitXor c d) (xorWords ws vs) ≡ bitXor (crcOf c ws) (crcOf d vs)
-crc-linear c d [] [] e = crc-nil (bitXor c d) ∙ sym (ap₂ bitXor (crc-nil c) (crc-nil d))
+crc-linear c d [] [] e = crc-nil (bitXor c d) ∙ xor-mod c d 18 ∙ sym (ap₂ bitXor (crc-nil c) (crc-nil d))
 crc-linear c d [] (v ∷ vs) e = absurd (omega arith)
 crc-linear c d (w ∷ ws) [] e = absurd (omega arith)
 crc-linear c d (w ∷ ws) (v ∷ vs) e =
@@ -77,17 +97,20 @@ crc-linear c d (w ∷ ws) (v ∷ vs) e =
     ∙ sym (ap₂ bitXor (crc-cons c w ws) (crc-cons d v vs))
 
 -- ---- the register keeps 18 bits
-pub step-lt : (c b : ℕ) → c < 2 ^ 18 → b < 2 → crcBit c b < 2 ^ 18
+pub step-lt : (c b : ℕ) → b < 2 → crcBit c b < 2 ^ 18
 unfolding crcBit
-step-lt c b h hb =
-    xor-lt 18 (c / 2) (bitXor b (c % 2) * taps) (lt-of-le-of-lt (div-le-self c 2) h)
+step-lt c b hb =
+    xor-lt 18 (register c / 2) (bitXor b (c % 2) * taps) (lt-of-le-of-lt (div-le-self (register c) 2) (mod-lt c (lit< tt)))
     (below2 (λ f. f * taps < 2 ^ 18) (lit< tt) (lit< tt) (bitXor b (c % 2)) (xor-lt 1 b (c % 2) hb (odd-lt c)))
 
-word-lt : (n c w : ℕ) → c < 2 ^ 18 → crcBits c (lowBits n w) < 2 ^ 18
-unfolding crcBits lowBits
-word-lt zero c w h = h
-word-lt (suc n) c w h = word-lt n (crcBit c (w % 2)) (w / 2) (step-lt c (w % 2) h (odd-lt w))
+bits-lt : (c : ℕ) (bs : List ℕ) → crcBits c bs < 2 ^ 18
+unfolding crcBits
+bits-lt c [] = mod-lt c (lit< tt)
+bits-lt c (b ∷ bs) = bits-lt (crcBit c b) bs
 
-pub crc-lt : (c : ℕ) (ws : List ℕ) → c < 2 ^ 18 → crcOf c ws < 2 ^ 18
-crc-lt c [] h = subst (λ (x : ℕ). x < 2 ^ 18) (sym (crc-nil c)) h
-crc-lt c (w ∷ ws) h = subst (λ (x : ℕ). x < 2 ^ 18) (sym (crc-cons c w ws)) (crc-lt (crcBits c (lowBits 10 w)) ws (word-lt 10 c w h))
+pub crc-lt : (c : ℕ) (ws : List ℕ) → crcOf c ws < 2 ^ 18
+unfolding crcOf
+crc-lt c ws = bits-lt c (bitsOf ws)
+
+pub word-lt : (c w : ℕ) → crcBits c (lowBits 10 w) < 2 ^ 18
+word-lt c w = bits-lt c (lowBits 10 w)

@@ -4,3 +4,4 @@ pub mod ClassLaws
 pub mod SumLaws
 pub mod CrcLaws
 pub mod Shifts
+pub mod PolynomialLaws

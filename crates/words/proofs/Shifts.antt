@@ -4,53 +4,51 @@
 use mathlib.Core.Path.{_≡_, refl, sym, ap, ap₂, _∙_, subst}
 use mathlib.Core.List.{List, [], _∷_, _++_}
 use Prim.Native.Nat.{ℕ, zero, suc, _+_, _*_, _/_, _%_, _^_, _<_}
-use native.Mathlib.Nat.{mul-one, mul-comm, zero-add, suc-add, div-one, mod-lt, mod-mod, div-eq-of-lt}
+use native.Mathlib.Nat.{mul-one, mul-comm, zero-add, suc-add, div-one, mod-lt, mod-mod, mod-eq-of-lt, div-eq-of-lt}
 use native.Mathlib.Numerals.{add-one, one-add}
 use native.Mathlib.Omega.{arith}
 use lib.Dec.{lit<, T}
 use lib.Arith.{lt-one, digits-lt, digits-div, digits-mod}
 use lib.Pow.{pow-pos, pow-add, split, shr-lt, shr-shr, field, mod-mod-pow}
 use lib.Bits.{bitXor, xor-comm, xor-zero-r, xor-shr, xor-mod, xor-shifted, shifted-half, shifted-even}
-use lib.ListN.{length, replicate, getD, drop, drop-of-length-le}
+use lib.ListN.{length, getD, drop, drop-of-length-le}
 use Rattle.lists.proofs.Loops.{next-drop}
-use Rattle.words.specs.Shifts.{fed}
+use Rattle.words.specs.Shifts.{fed, quietBit, quiet}
 use Rattle.words.specs.Crc.{lowBits, bitsOf, crcBit, crcBits, crcOf, taps}
-use Rattle.words.proofs.Xor.{xor-half, xor-odd, xor-assoc, xor-swap, Linear, linear-self, linear-shl, linear-shr, linear-mod, linear-xor, agree-below}
-use Rattle.words.proofs.CrcLaws.{word-linear}
+use Rattle.words.proofs.Xor.{odd-lt, xor-half, xor-odd, xor-assoc, xor-swap, xor-times, Linear, linear-self, linear-shl, linear-shr, linear-mod, linear-xor, agree-below}
+use Rattle.words.proofs.CrcLaws.{step-lt}
 
--- the register after n bits that are 0
-abbrev pub quiet : ℕ → ℕ → ℕ
-quiet n x = crcBits x (replicate n 0)
+digit-linear : Linear (λ x. x % 2 * taps)
+digit-linear = record { splits = λ a b. ap (λ (x : ℕ). x * taps) (xor-odd a b) ∙ xor-times taps (a % 2) (b % 2) (odd-lt a) (odd-lt b) }
 
-zero-bits : (n : ℕ) → lowBits n 0 ≡ replicate n 0
-unfolding lowBits
-zero-bits zero = refl
-zero-bits (suc n) = ap (λ (l : List ℕ). 0 ∷ l) (zero-bits n)
+bit-quiet : Linear quietBit
+unfolding quietBit
+bit-quiet = linear-xor (linear-shr 1 linear-self) digit-linear
 
 pub quiet-linear : (n : ℕ) → Linear (quiet n)
-quiet-linear n = record {
-  splits = λ a b.
-      ap (crcBits (bitXor a b)) (sym (zero-bits n)) ∙ word-linear n a b 0 0 ∙ ap₂ (λ (x y : List ℕ). bitXor (crcBits a x) (crcBits b y)) (zero-bits n) (zero-bits n);
-}
+unfolding quiet
+quiet-linear zero = record { splits = λ a b. refl }
+quiet-linear (suc n) = record { splits = λ a b. ap (quiet n) (bit-quiet .splits a b) ∙ quiet-linear n .splits (quietBit a) (quietBit b) }
 
 half-lt : {n : ℕ} (k : ℕ) → n < 2 ^ suc k → n / 2 < 2 ^ k
 half-lt {n} k h = shr-lt k 1 (subst (λ (x : ℕ). n < 2 ^ x) (sym (add-one k)) h)
 
 -- ---- the bits may be xored into the register first
-fold-bit : (c w : ℕ) → bitXor (crcBit c (w % 2)) (w / 2) ≡ crcBit (bitXor c w) 0
-unfolding crcBit
-fold-bit c w =
-    xor-swap (c / 2) (bitXor (w % 2) (c % 2) * taps) (w / 2)
+fold-bit : (c w : ℕ) → c < 2 ^ 18 → bitXor (crcBit c (w % 2)) (w / 2) ≡ quietBit (bitXor c w)
+unfolding crcBit quietBit
+fold-bit c w r =
+    ap (λ (x : ℕ). bitXor (bitXor (x / 2) (bitXor (w % 2) (c % 2) * taps)) (w / 2)) (mod-eq-of-lt r)
+    ∙ xor-swap (c / 2) (bitXor (w % 2) (c % 2) * taps) (w / 2)
     ∙ ap₂ (λ (x y : ℕ). bitXor x (y * taps)) (sym (xor-half c w)) (xor-comm (w % 2) (c % 2) ∙ sym (xor-odd c w))
 
-pub fold-in : (n c w : ℕ) → w < 2 ^ n → crcBits c (lowBits n w) ≡ quiet n (bitXor c w)
-unfolding crcBits lowBits
-fold-in zero c w h = sym (ap (bitXor c) (lt-one h) ∙ xor-zero-r c)
-fold-in (suc n) c w h = fold-in n (crcBit c (w % 2)) (w / 2) (half-lt n h) ∙ ap (quiet n) (fold-bit c w)
+pub fold-in : (n c w : ℕ) → c < 2 ^ 18 → w < 2 ^ n → crcBits c (lowBits n w) ≡ quiet n (bitXor c w)
+unfolding crcBits lowBits quiet
+fold-in zero c w r h = mod-eq-of-lt r ∙ sym (ap (bitXor c) (lt-one h) ∙ xor-zero-r c)
+fold-in (suc n) c w r h = fold-in n (crcBit c (w % 2)) (w / 2) (step-lt c (w % 2) (odd-lt w)) (half-lt n h) ∙ ap (quiet n) (fold-bit c w r)
 
 -- ---- what stands above the n low bits is only shifted
-high-bit : (n h l : ℕ) → crcBit (bitXor (h * 2 ^ suc n) l) 0 ≡ bitXor (h * 2 ^ n) (crcBit l 0)
-unfolding crcBit
+high-bit : (n h l : ℕ) → quietBit (bitXor (h * 2 ^ suc n) l) ≡ bitXor (h * 2 ^ n) (quietBit l)
+unfolding quietBit
 high-bit n h l =
     ap₂ (λ (x y : ℕ). bitXor x (y * taps))
     (xor-half (h * 2 ^ suc n) l ∙ ap (λ (x : ℕ). bitXor x (l / 2)) (shifted-half h n))
@@ -58,9 +56,9 @@ high-bit n h l =
     ∙ xor-assoc (h * 2 ^ n) (l / 2) (l % 2 * taps)
 
 high-bits : (n h l : ℕ) → quiet n (bitXor (h * 2 ^ n) l) ≡ bitXor h (quiet n l)
-unfolding crcBits
+unfolding quiet
 high-bits zero h l = ap (λ (x : ℕ). bitXor x l) (mul-one h)
-high-bits (suc n) h l = ap (quiet n) (high-bit n h l) ∙ high-bits n h (crcBit l 0)
+high-bits (suc n) h l = ap (quiet n) (high-bit n h l) ∙ high-bits n h (quietBit l)
 
 split-bits : (n x : ℕ) → quiet n x ≡ bitXor (x / 2 ^ n) (quiet n (x % 2 ^ n))
 split-bits n x =
@@ -84,12 +82,12 @@ unfolding ten-shifts
 ten-linear = linear-xor (linear-xor (linear-shl 8 linear-self) (linear-shl 4 linear-self)) (linear-shl 3 linear-self)
 
 ten-is : (x : ℕ) → x < 2 ^ 10 → ten-shifts x ≡ quiet 10 x
-unfolding ten-shifts crcBits
+unfolding ten-shifts quiet
 ten-is x h = agree-below ten-shifts (quiet 10) ten-linear (quiet-linear 10) 10 tt x h
 
-pub word-by-shifts : (c w : ℕ) → let x = bitXor c w % 1024 in bitXor (bitXor (bitXor (c / 1024) (x * 256)) (x * 16)) (x * 8) ≡ crcBits c (lowBits 10 w)
+pub word-by-shifts : (c w : ℕ) → c < 2 ^ 18 → let x = bitXor c w % 1024 in bitXor (bitXor (bitXor (c / 1024) (x * 256)) (x * 16)) (x * 8) ≡ crcBits c (lowBits 10 w)
 unfolding ten-shifts
-word-by-shifts c w =
+word-by-shifts c w r =
     let x = bitXor c w % 1024 in
     let m = w % 1024 in
     let small : m < 2 ^ 10 = mod-lt w (pow-pos 10) in
@@ -98,7 +96,7 @@ word-by-shifts c w =
     xor-assoc (bitXor (c / 1024) (x * 256)) (x * 16) (x * 8)
     ∙ xor-assoc (c / 1024) (x * 256) (bitXor (x * 16) (x * 8))
     ∙ ap (bitXor (c / 1024)) (sym (xor-assoc (x * 256) (x * 16) (x * 8)) ∙ ten-is x (mod-lt (bitXor c w) (pow-pos 10)))
-    ∙ sym (ap (crcBits c) (sym (low-bits 10 w)) ∙ fold-in 10 c m small ∙ split-bits 10 (bitXor c m) ∙ ap₂ (λ (h l : ℕ). bitXor h (quiet 10 l)) high low)
+    ∙ sym (ap (crcBits c) (sym (low-bits 10 w)) ∙ fold-in 10 c m r small ∙ split-bits 10 (bitXor c m) ∙ ap₂ (λ (h l : ℕ). bitXor h (quiet 10 l)) high low)
 
 -- ---- six words
 pub fed-linear : (i j k : ℕ) {f : ℕ → ℕ} → Linear f → Linear (λ x. fed i j k (f x))
@@ -117,7 +115,7 @@ abbrev pub sixty-shifts : ℕ → ℕ
 sixty-shifts x = bitXor (bitXor (sixty x / 2 ^ 42) (sixty x / 2 ^ 46)) (sixty x / 2 ^ 47)
 
 pub sixty-is : (x : ℕ) → x < 2 ^ 60 → sixty-shifts x ≡ quiet 60 x
-unfolding fed crcBits
+unfolding fed quiet
 sixty-is x h =
     agree-below sixty-shifts (quiet 60)
     (linear-xor (linear-xor (linear-shr 42 sixty-linear) (linear-shr 46 sixty-linear)) (linear-shr 47 sixty-linear))
@@ -154,9 +152,9 @@ packed-bits (w ∷ ws) =
     (sym (low-bits 10 (packed ws * 1024 + w % 1024)) ∙ ap (lowBits 10) (digits-mod (packed ws) (mod-lt w (lit< tt))) ∙ low-bits 10 w)
     (ap (lowBits (tens ws)) (digits-div (packed ws) (mod-lt w (lit< tt))) ∙ sym (packed-bits ws)))
 
-pub crc-packed : (c : ℕ) (ws : List ℕ) → crcOf c ws ≡ quiet (tens ws) (bitXor c (packed ws))
+pub crc-packed : (c : ℕ) (ws : List ℕ) → c < 2 ^ 18 → crcOf c ws ≡ quiet (tens ws) (bitXor c (packed ws))
 unfolding crcOf
-crc-packed c ws = ap (crcBits c) (packed-bits ws) ∙ fold-in (tens ws) c (packed ws) (packed-lt ws)
+crc-packed c ws r = ap (crcBits c) (packed-bits ws) ∙ fold-in (tens ws) c (packed ws) r (packed-lt ws)
 
 -- a list of words from place i on, side by side
 packed-next : (s : List ℕ) (i : ℕ) → i < length s → packed (drop i s) ≡ packed (drop (i + 1) s) * 1024 + getD s i 0 % 1024
@@ -166,7 +164,7 @@ tens-length : (s : List ℕ) → tens s ≡ 10 * length s
 tens-length [] = refl
 tens-length (w ∷ s) = let e = tens-length s in omega arith
 
-module _ (c : ℕ) (s : List ℕ) (six : length s ≡ 6) (t0 t1 t2 t3 t4 t5 : ℕ)
+module _ (c : ℕ) (s : List ℕ) (below : c < 2 ^ 18) (six : length s ≡ 6) (t0 t1 t2 t3 t4 t5 : ℕ)
     (e0 : t0 ≡ getD s 0 0 % 1024) (e1 : t1 ≡ getD s 1 0 % 1024) (e2 : t2 ≡ getD s 2 0 % 1024)
     (e3 : t3 ≡ getD s 3 0 % 1024) (e4 : t4 ≡ getD s 4 0 % 1024) (e5 : t5 ≡ getD s 5 0 % 1024) where
   joined : ((t5 * 1024 + t4) * 1024 + t3) * 1073741824 + ((t2 * 1024 + t1) * 1024 + t0) ≡ packed s
@@ -181,4 +179,4 @@ module _ (c : ℕ) (s : List ℕ) (six : length s ≡ 6) (t0 t1 t2 t3 t4 t5 : �
       omega arith
 
   pub six-words : quiet 60 (bitXor c (((t5 * 1024 + t4) * 1024 + t3) * 1073741824 + ((t2 * 1024 + t1) * 1024 + t0))) ≡ crcOf c s
-  six-words = ap (λ (p : ℕ). quiet 60 (bitXor c p)) joined ∙ ap (λ (n : ℕ). quiet n (bitXor c (packed s))) (sym (tens-length s ∙ ap (λ (n : ℕ). 10 * n) six)) ∙ sym (crc-packed c s)
+  six-words = ap (λ (p : ℕ). quiet 60 (bitXor c p)) joined ∙ ap (λ (n : ℕ). quiet n (bitXor c (packed s))) (sym (tens-length s ∙ ap (λ (n : ℕ). 10 * n) six)) ∙ sym (crc-packed c s below)

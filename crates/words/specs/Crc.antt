@@ -1,4 +1,4 @@
--- The 18-bit CRC. A register is a number, C0 its lowest bit; bits come one after another.
+-- The 18-bit CRC. A register is a number, C0 its lowest bit, and only its 18 lowest bits count; bits come one after another.
 -- Assumes nothing.
 use Prim.Native.Nat.{ℕ, zero, suc, _+_, _-_, _*_, _/_, _%_, _^_}
 use mathlib.Core.List.{List, [], _∷_, _++_}
@@ -9,6 +9,10 @@ use Rattle.words.specs.Forms.{dataWord}
 abbrev pub crcStart : ℕ
 crcStart = 2 ^ 18 - 1
 
+-- 18 bits: C17-C0 of any number
+abbrev pub register : ℕ → ℕ
+register c = c % 2 ^ 18
+
 -- C17, C13 and C12
 abbrev pub taps : ℕ
 taps = 2 ^ 17 + 2 ^ 13 + 2 ^ 12
@@ -17,7 +21,7 @@ taps = 2 ^ 17 + 2 ^ 13 + 2 ^ 12
 unfoldable pub crcBit : ℕ → ℕ → ℕ
 crcBit c b =
     let f = bitXor b (c % 2) in
-    bitXor (c / 2) (f * taps)
+    bitXor (register c / 2) (f * taps)
 
 -- the n lowest bits of w, B0 first
 unfoldable pub lowBits : ℕ → ℕ → List ℕ
@@ -33,7 +37,7 @@ bitsOf (w ∷ ws) = lowBits 10 w ++ bitsOf ws
 -- the register after the bits
 unfoldable pub crcBits : ℕ → List ℕ → ℕ
 unfolding crcBit
-crcBits c [] = c
+crcBits c [] = register c
 crcBits c (b ∷ bs) = crcBits (crcBit c b) bs
 
 -- the register after the words

@@ -4,3 +4,4 @@ pub mod Class
 pub mod Checksum
 pub mod Crc
 pub mod Shifts
+pub mod Polynomial

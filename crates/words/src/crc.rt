@@ -1,10 +1,10 @@
-// The 18-bit CRC of a lent part, from any register. 01 says it bit by bit. What the bits feed back comes round again only
+// The 18-bit CRC of a lent part, from any register, of which only the 18 low bits count. 01 says it bit by bit. What the bits feed back comes round again only
 // after 13 steps, so that a word, or six words at once, go by shifts; both are proved equal to the bits.
 use crate::forms;
 ghost use mathlib.Core.Path.{_≡_};
 ghost use Prim.Native.Nat.{_%_, _^_, _<_};
-ghost use lib.ListN.{length, replicate};
-ghost use Rattle.words.specs.Shifts.{fed};
+ghost use lib.ListN.{length};
+ghost use Rattle.words.specs.Shifts.{fed, quiet};
 ghost use Rattle.words.specs.Crc.{crcBits, crcOf, registerWords, lowBits};
 
 // The register before any word: all ones.
@@ -12,6 +12,7 @@ pub const CRC_START: u32 = 0x3ffff;
 
 // The register after a word's ten bits.
 fn crc_word(c: u32, w: u16) -> u32
+    requires { ⌜ c < 2 ^ 18 ⌝ }
     ensures { λ r. ⌜ r ≡ crcBits c (lowBits 10 w) ⌝ }
 {
     let x = (c ^ (w as u32)) % 1024;
@@ -26,10 +27,10 @@ fn feed(x: u64, i: u32, j: u32, k: u32) -> u64
     x ^ (x << i) ^ (x << j) ^ (x << k)
 }
 
-// The register after sixty bits that are 0: what is fed back once, what that feeds back, and what that does.
+// The register after sixty bits that are 0, with those above it come down: what is fed back once, what that feeds back, and what that does.
 fn after_sixty(x: u64) -> u32
     requires { ⌜ x < 2 ^ 60 ⌝ }
-    ensures { λ r. ⌜ r ≡ crcBits x (replicate 60 0) ⌝ }
+    ensures { λ r. ⌜ r ≡ quiet 60 x ⌝ }
 {
     let once = feed(x, 13, 14, 18);
     let twice = feed(once, 26, 28, 36);
@@ -46,7 +47,7 @@ fn ten(w: u16) -> u64
 
 // The register after six words.
 fn crc_six(c: u32, s: &[u16]) -> u32
-    requires { ⌜ length (now s) ≡ 6 ⌝ }
+    requires { ⌜ (c < 2 ^ 18) × (length (now s) ≡ 6) ⌝ }
     ensures { λ r. ⌜ r ≡ crcOf c (now (s .entry)) ⌝ }
 {
     let upper = (ten(s[5]) * 1024 + ten(s[4])) * 1024 + ten(s[3]);
@@ -56,6 +57,7 @@ fn crc_six(c: u32, s: &[u16]) -> u32
 
 // The register after the words, one by one.
 fn crc_each(c: u32, s: &[u16]) -> u32
+    requires { ⌜ c < 2 ^ 18 ⌝ }
     ensures { λ r. ⌜ r ≡ crcOf c (now (s .entry)) ⌝ }
 {
     let mut x = c;
@@ -71,7 +73,7 @@ fn crc_each(c: u32, s: &[u16]) -> u32
 pub fn crc_of(c: u32, s: &[u16]) -> u32
     ensures { λ r. ⌜ r ≡ crcOf c (now (s .entry)) ⌝ }
 {
-    let mut x = c;
+    let mut x = c % 262144;
     let mut i = 0;
     while 6 <= s.len() - i {
         let e = i + 6;

@@ -1,24 +1,26 @@
 -- `words::crc::crc_of` meets its contract. Assumes nothing.
-use mathlib.Core.Path.{_≡_, refl, sym, ap, ap₂, _∙_}
-use Prim.Native.Nat.{ℕ, _+_, _-_, _≤_}
+use mathlib.Core.Path.{_≡_, sym, ap, _∙_, subst}
+use Prim.Native.Nat.{ℕ, _+_, _-_, _^_, _<_, _≤_}
+use native.Mathlib.Nat.{mod-lt}
+use lib.Dec.{lit<}
 use native.Mathlib.Omega.{arith}
 use denote.Ref.{now}
-use lib.ListN.{length, take, drop, length-take, length-drop}
+use lib.ListN.{length, take, drop, length-drop}
 use lib.Seq.{take-all}
 use Rattle.words.specs.Crc.{crcOf}
-use Rattle.words.proofs.CrcLaws.{crc-part}
+use Rattle.words.proofs.CrcLaws.{crc-register, crc-part, crc-lt}
 use borrow.Author.Needs.{needs}
 use Rattle.words.proofs.crc.crc_of.Statement.{statement}
 use Rattle.words.proofs.crc.crc_of.Tie as tie
 
 abbrev Inv-loop : tie.InvT-loop
-Inv-loop c s x₀ i₀ x i = (i ≤ length s) × (crcOf x (drop i s) ≡ crcOf c s)
+Inv-loop c s x₀ i₀ x i = (i ≤ length s) × ((x < 2 ^ 18) × (crcOf x (drop i s) ≡ crcOf c s))
 
 abbrev μ-loop : tie.MeasureT-loop
 μ-loop c s x₀ i₀ x i = length s - i
 
 loop-holds : tie.Need-loop-holds Inv-loop μ-loop
-loop-holds c = (search needs, refl)
+loop-holds c = (search needs, (mod-lt (c .before .args .c) (lit< tt), crc-register (c .before .args .c) (now (c .before .args .s))))
 
 sub-loop : tie.Need-sub-loop Inv-loop μ-loop
 sub-loop c = search needs
@@ -49,7 +51,7 @@ loop-again c =
     let l = c .before .before .before .loop in
     let s = now (c .before .before .before .before .before .args .s) in
     let six : l .i + 6 - l .i ≡ 6 = omega arith in
-    (search needs, ap (λ (r : ℕ). crcOf r (drop (l .i + 6) s)) (c .crc-six .ensures ∙ ap (λ (n : ℕ). crcOf (l .x) (take n (drop (l .i) s))) six) ∙ crc-part (l .x) (l .i) 6 s ∙ l .inv .1)
+    (search needs, (subst (λ (r : ℕ). r < 2 ^ 18) (sym (c .crc-six .ensures)) (crc-lt (l .x) _), ap (λ (r : ℕ). crcOf r (drop (l .i + 6) s)) (c .crc-six .ensures ∙ ap (λ (n : ℕ). crcOf (l .x) (take n (drop (l .i) s))) six) ∙ crc-part (l .x) (l .i) 6 s ∙ l .inv .1 .1))
 
 mul-crc-each : tie.Need-mul-crc-each Inv-loop μ-loop
 mul-crc-each c = search needs
@@ -70,7 +72,7 @@ returns : tie.Need-returns Inv-loop μ-loop
 returns c =
     let l = c .before .before .before .loop in
     let s = now (c .before .before .before .before .before .args .s) in
-    c .crc-each .ensures ∙ ap (crcOf (l .x)) (take-all (length s - l .i) (drop (l .i) s) (simp length-drop (omega arith))) ∙ l .inv .1
+    c .crc-each .ensures ∙ ap (crcOf (l .x)) (take-all (length s - l .i) (drop (l .i) s) (simp length-drop (omega arith))) ∙ l .inv .1 .1
 
 pub crc-of-spec : {M : Type 1} → statement M
 crc-of-spec =

@@ -94,7 +94,7 @@ returns : tie.Need-returns
 returns c =
     let a = c .before .before .before .before .before .before .before .before .before .before .before .before .before .before .args in
     c .after-sixty .ensures
-    ∙ six-words (a .c) (now (a .s)) (c .before .before .before .before .before .before .before .before .before .before .before .before .before .before .pre) _ _ _ _ _ _
+    ∙ six-words (a .c) (now (a .s)) (c .before .before .before .before .before .before .before .before .before .before .before .before .before .before .pre .0) (c .before .before .before .before .before .before .before .before .before .before .before .before .before .before .pre .1) _ _ _ _ _ _
     (c .before .ten6 .ensures .0) (c .before .before .before .ten5 .ensures .0) (c .before .before .before .before .before .ten4 .ensures .0) (c .before .before .before .before .before .before .before .ten3 .ensures .0) (c .before .before .before .before .before .before .before .before .before .ten2 .ensures .0) (c .before .before .before .before .before .before .before .before .before .before .before .ten .ensures .0)
 
 pub crc-six-spec : {M : Type 1} → statement M

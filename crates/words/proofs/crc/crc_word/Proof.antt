@@ -14,7 +14,7 @@ mul-result-3 : tie.Need-mul-result-3
 mul-result-3 c = search needs
 
 returns : tie.Need-returns
-returns c = word-by-shifts (c .args .c) (c .args .w)
+returns c = word-by-shifts (c .args .c) (c .args .w) (c .pre)
 
 pub crc-word-spec : {M : Type 1} → statement M
 crc-word-spec = tie.close (tie.spec mul-result mul-result-2 mul-result-3 returns)
