@@ -13,6 +13,7 @@ import re
 import shutil
 import subprocess
 import tempfile
+import threading
 from concurrent.futures import ThreadPoolExecutor
 from pathlib import Path
 
@@ -83,6 +84,23 @@ def dependencies():
     return found
 
 
+SEEDS = tempfile.TemporaryDirectory(prefix="checked-")
+LOCK = threading.Lock()
+
+
+def checked(name):
+    """Copies of the crate's checked modules, made once, in a folder that has the name of the prover's build."""
+    with LOCK:
+        seed = Path(SEEDS.name) / name
+        if not seed.is_dir():
+            rlib = TOP / "target" / "rlib" / f"{name}.rlib"
+            if not (rlib / "format").is_file():
+                raise BadEdit(f"{name} is not proved in target/")
+            build = re.search(r"^rattle-build (.*)$", (rlib / "format").read_text(), re.M)[1]
+            shutil.copytree(rlib / "toolchain" / "checked", seed / build.replace("/", "_"))
+        return list(seed.glob("*/*"))
+
+
 class Copy:
     """A folder with copies of some crates that may be edited, and the prover's incremental folder. All other crates are as proved."""
 
@@ -102,15 +120,11 @@ class Copy:
         shutil.rmtree(self.here, ignore_errors=True)
 
     def seed(self, name):
-        """The checked modules of the crate as it was proved, in the folder of the prover's build."""
-        rlib = TOP / "target" / "rlib" / f"{name}.rlib"
-        if not (rlib / "format").is_file():
-            raise BadEdit(f"{name} is not proved in target/")
-        build = re.search(r"^rattle-build (.*)$", (rlib / "format").read_text(), re.M)[1]
-        folder = self.here / "checked" / build.replace("/", "_")
-        folder.mkdir(parents=True, exist_ok=True)
-        for module in (rlib / "toolchain" / "checked").iterdir():
-            shutil.copy(module, folder / module.name)
+        """The checked modules of the crate as it was proved. They are linked: the prover writes a module anew, and never into a file."""
+        for module in checked(name):
+            folder = self.here / "checked" / module.parent.name
+            folder.mkdir(parents=True, exist_ok=True)
+            os.link(module, folder / module.name)
 
     def check(self, name):
         """Whether the prover accepts the crate; and what it said. A crate that was copied is taken as source by those above it."""
