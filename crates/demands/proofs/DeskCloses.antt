@@ -6,13 +6,14 @@ use mathlib.Core.List.{List, [], _∷_}
 use Prim.Native.Nat.{ℕ, suc, _-_, _*_, _/_, _≤_}
 use native.Mathlib.Nat.{suc-mul, mul-div-cancel, zero-mul}
 use native.Mathlib.Omega.{arith}
-use lib.Dec.{eqb, leb, lit≤}
+use lib.Dec.{eqb}
 use lib.ListN.{length, length-append}
-use borrow.Author.Tests.{leb-true, ltb-true, not-false}
+use borrow.Author.Tests.{leb-true, not-false}
 use Rattle.lists.specs.Tests.{pick}
-use Rattle.lists.proofs.Tests.{true-false, below, or-right, pick-true}
+use Rattle.lists.proofs.Tests.{true-false, or-right, pick-true}
 use Rattle.line.specs.declared.settings.Settings.{Settings}
 use Rattle.line.specs.Systems.{systemOf, isSystem}
+use Rattle.line.proofs.SystemLaws.{sound}
 use Rattle.line.specs.Fixed.{isVariable, sizeOf, placesOf}
 use Rattle.line.specs.Layout.{areaLength}
 use Rattle.course.specs.declared.Place.{Place}
@@ -35,10 +36,6 @@ use Rattle.demands.proofs.Outcomes.{Closes}
 use Rattle.demands.proofs.DeskCalls.{owes-stays}
 
 -- ---- an area has a word, with either flag
-payload-some : (system : ℕ) → isSystem system ≡ true → 3 ≤ systemOf system .payload
-unfolding isSystem
-payload-some system e = lit≤ (below 4 (λ (s : ℕ). leb 3 (systemOf s .payload)) tt system (ltb-true system 4 e))
-
 area-by : (p : ℕ) (b : Bool) → 3 ≤ p → 1 ≤ pick b (p - 2) p
 unfolding pick
 area-by p true h = omega arith
@@ -46,7 +43,7 @@ area-by p false h = omega arith
 
 pub area-some : (system flag : ℕ) → isSystem system ≡ true → 1 ≤ areaLength (systemOf system .payload) flag
 unfolding areaLength
-area-some system flag known = area-by (systemOf system .payload) (eqb flag 1) (payload-some system known)
+area-some system flag known = area-by (systemOf system .payload) (eqb flag 1) (sound system known .some)
 
 -- ---- what 20 lets pass: an unfinished block where no word is left
 filled-by : (end : ℕ) (place : Place) (part : Bool) → (part && not (isFull end place)) ≡ false → part ≡ true → isAt place ≡ true → end ≤ placeOf place
