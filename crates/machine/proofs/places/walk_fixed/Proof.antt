@@ -5,6 +5,7 @@ use Prim.Native.Nat.{ℕ, _-_, _≤_}
 use lib.Dec.{eqb, ltb}
 use lib.ListN.{length}
 use Rattle.machine.proofs.PlaceLaws.{fixed-none, fixed-walk, fixed-fits}
+use Rattle.machine.proofs.WalkNumberLaws.{fixed-numbered}
 use borrow.Author.Needs.{needs}
 use Rattle.machine.proofs.places.walk_fixed.Statement.{statement}
 use Rattle.machine.proofs.places.walk_fixed.Tie as tie
@@ -22,7 +23,8 @@ less-requires : tie.Need-less-requires
 less-requires c κs = search needs
 
 returns : tie.Need-returns
-returns c = let a = c .before .before .before .before .args in fixed-none (a .mode) (a .phase) (a .size) (a .words .now) (a .room .now) (sym (asked (c .before)) ∙ c .if1 .taken)
+returns c = let a = c .before .before .before .before .args in
+    fixed-numbered (a .mode) (a .phase) (a .size) (a .words .now) (a .room .now) _ (fixed-none (a .mode) (a .phase) (a .size) (a .words .now) (a .room .now) (sym (asked (c .before)) ∙ c .if1 .taken))
 
 walk-places-requires : tie.Need-walk-places-requires
 walk-places-requires c κs = fitting (c .before)
@@ -35,7 +37,8 @@ returns-2 c =
     let e = c .before .before .before .before in
     let a = e .before .before .before .before .args in
     let fit = fitting e in
-    c .before .before .walk-places .ensures ∙ sym (fixed-walk (a .mode) (a .phase) (a .size) (a .words .now) (a .room .now) (fit .0) (fit .1))
+    fixed-numbered (a .mode) (a .phase) (a .size) (a .words .now) (a .room .now) _
+    (c .before .before .walk-places .ensures ∙ sym (fixed-walk (a .mode) (a .phase) (a .size) (a .words .now) (a .room .now) (fit .0) (fit .1)))
 
 pub walk-fixed-spec : {M : Type 1} → statement M
 walk-fixed-spec = tie.close (tie.spec less-requires returns walk-places-requires same-length returns-2)
