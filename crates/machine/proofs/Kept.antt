@@ -130,7 +130,7 @@ either Nothing stop on P a b = b
 either (Whole k n) stop on P a b = a
 either (Lost n) stop on P a b = a
 
-stored-long : (keeps : Bool) (m v : ℕ) (room : List ℕ) → length (stored keeps m v room) ≡ length room
+pub stored-long : (keeps : Bool) (m v : ℕ) (room : List ℕ) → length (stored keeps m v room) ≡ length room
 unfolding stored pick
 stored-long true m v room = length-set room m v
 stored-long false m v room = refl

@@ -5,4 +5,5 @@ pub mod RunLaws
 pub mod Going
 pub mod PlaceLaws
 pub mod Kept
+pub mod WalkNumberLaws
 pub mod WalkSamples

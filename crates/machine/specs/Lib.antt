@@ -4,3 +4,4 @@ pub mod StepNumbers
 pub mod Walk
 pub mod Runs
 pub mod Places
+pub mod WalkNumbers

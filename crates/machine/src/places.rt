@@ -11,7 +11,9 @@ ghost use mathlib.Core.List.{map};
 ghost use Prim.Native.Nat.{_-_, _/_, _≤_};
 ghost use lib.ListN.{length};
 ghost use Rattle.words.specs.Modes.{valueOf};
+ghost use Rattle.machine.specs.Phases.{phaseNumbers};
 ghost use Rattle.machine.specs.Walk.{leaves};
+ghost use Rattle.machine.specs.WalkNumbers.{numbersOf, fixedBy};
 ghost use Rattle.machine.specs.Places.{placesIn, metAt, placeRoom, walkPlaces, walkFixed};
 
 // What a place of that type word and n values reports: nothing where it is empty.
@@ -79,10 +81,11 @@ fn walk_all(mode: u8, phase: Phase, size: usize, words: &[u16], room: &mut [u16]
     }
 }
 
-// The walk over places of that size, for any phase, size, words and room. Words behind the last whole place are not looked at. The place in
-// front is asked before the loop, because most calls end with it.
+// The walk over places of that size, for any phase, size, words and room; and its numbers. Words behind the last whole place are not looked
+// at. The place in front is asked before the loop, because most calls end with it.
 pub fn walk_fixed(mode: u8, phase: Phase, size: usize, words: &[u16], room: &mut [u16]) -> Walked
-    ensures { λ r. ⌜ leaves r (now (room .exit)) ≡ walkFixed mode phase size (now (words .entry)) (now (room .entry)) ⌝ }
+    ensures { λ r. ⌜ (leaves r (now (room .exit)) ≡ walkFixed mode phase size (now (words .entry)) (now (room .entry)))
+        × (numbersOf r ≡ fixedBy (length (now (room .entry))) (phaseNumbers phase) size (now (words .entry))) ⌝ }
 {
     if (size == 0) | (room.len() < lists::less(size, 1)) {
         return Walked {

@@ -13,7 +13,9 @@ ghost use Prim.Native.Nat.{_<_};
 ghost use lib.ListN.{length};
 ghost use Rattle.words.specs.Modes.{valueOf};
 ghost use Rattle.machine.specs.Machine.{stepOf};
+ghost use Rattle.machine.specs.Phases.{phaseNumbers};
 ghost use Rattle.machine.specs.Walk.{leaves, isNothing, collectedOf, stored, walkOf};
+ghost use Rattle.machine.specs.WalkNumbers.{numbersOf, walkBy};
 
 // What a walk leaves beside the room: the phase, what was met, and how many words were taken.
 pub struct Walked {
@@ -58,9 +60,10 @@ fn take_word(mode: u8, phase: Phase, w: u16, room: &mut [u16]) -> Step
     s
 }
 
-// The walk over words, for any phase and any room.
+// The walk over words, for any phase and any room; and the numbers of the phase and of what was met.
 pub fn walk(mode: u8, phase: Phase, words: &[u16], room: &mut [u16]) -> Walked
-    ensures { λ r. ⌜ leaves r (now (room .exit)) ≡ walkOf mode phase (now (words .entry)) (now (room .entry)) ⌝ }
+    ensures { λ r. ⌜ (leaves r (now (room .exit)) ≡ walkOf mode phase (now (words .entry)) (now (room .entry)))
+        × (numbersOf r ≡ walkBy (length (now (room .entry))) (phaseNumbers phase) (now (words .entry))) ⌝ }
 {
     let mut p = phase;
     let mut i = 0;

@@ -10,6 +10,7 @@ use lib.IntN.{ℤ, pos}
 use lib.ListN.{length}
 use Rattle.lists.specs.Tests.{pick}
 use Rattle.lists.proofs.Tests.{pick-true, pick-false}
+use Rattle.line.specs.declared.settings.Settings.{Settings}
 use Rattle.line.specs.Systems.{systemOf}
 use Rattle.line.specs.Check.{numberOf, settingsOf, lineFault, checkedFrom, checkedOf}
 use Rattle.course.specs.declared.Last.{Last}
@@ -28,7 +29,7 @@ use Rattle.reader.specs.declared.jump.Jump.{Jump}
 use Rattle.reader.specs.Jump.{jumpFrom, jumpNumbers}
 use Rattle.reader.specs.Events.{yesNo, eventNumbers}
 use Rattle.reader.specs.State.{capacity}
-use Rattle.reader.specs.Reading.{Call, call, goesOn, begun, starts, toldBy, walkFrom, readFault, readFrom, readingIn, reading}
+use Rattle.reader.specs.Reading.{Call, call, refused, goesOn, begun, starts, toldBy, walkFrom, readFault, readFrom, readingIn, reading}
 use Rattle.reader.specs.Numbers.{jumpBy, isOpen, refusedBy, begunBy, startBy, laterBy, placeBy, readBy}
 use Rattle.reader.proofs.Accepts.{begins-by, refuses-by}
 
@@ -51,22 +52,33 @@ open-is (Fourth k a b c) = refl
 open-is (Data k n m) = refl
 
 -- ---- no line begun
-begun-numbers : (st : Reader) (line : List ℕ) → eventNumbers (begun st (numberOf line) (settingsOf line) .event)
-    ≡ begunBy (numberOf line) (isOpen (st .phase) && not (goesOn st (numberOf line) (settingsOf line))) (jumpBy (systemOf (st .system) .lines) (st .last) (numberOf line))
+begun-numbers : (st : Reader) (n : ℕ) (t : Settings) → eventNumbers (begun st n t .event)
+    ≡ begunBy n (isOpen (st .phase) && not (goesOn st n t)) (jumpBy (systemOf (st .system) .lines) (st .last) n)
 unfolding begun
-begun-numbers st line =
-    ap₂ (λ (b : Bool) (j : List ℤ). begunBy (numberOf line) (b && not (goesOn st (numberOf line) (settingsOf line))) j) (open-is (st .phase)) (jump-numbers (systemOf (st .system) .lines) (st .last) (numberOf line))
+begun-numbers st n t =
+    ap₂ (λ (b : Bool) (j : List ℤ). begunBy n (b && not (goesOn st n t)) j) (open-is (st .phase)) (jump-numbers (systemOf (st .system) .lines) (st .last) n)
+
+pub begin-numbered : (st : Reader) (n : ℕ) (t : Settings) (x : Told) → x ≡ begun st n t
+    → (x ≡ begun st n t) × (eventNumbers (x .event) ≡ begunBy n (isOpen (st .phase) && not (goesOn st n t)) (jumpBy (systemOf (st .system) .lines) (st .last) n))
+begin-numbered st n t x e = (e, ap (λ (y : Told). eventNumbers (y .event)) e ∙ begun-numbers st n t)
+
+pub refuse-numbered : (st : Reader) (n : ℕ) (x : Told) → x ≡ refused st n → (x ≡ refused st n) × (eventNumbers (x .event) ≡ refusedBy n (isOpen (st .phase)))
+refuse-numbered st n x e = (e, ap (λ (y : Told). eventNumbers (y .event)) e ∙ ap (refusedBy n) (open-is (st .phase)))
 
 start-by : (st : Reader) (line : List ℕ) (n : ℕ) → eventNumbers (starts st (checkedFrom n line) .event)
     ≡ pick (eqb n 0) (begunBy (numberOf line) (isOpen (st .phase) && not (goesOn st (numberOf line) (settingsOf line))) (jumpBy (systemOf (st .system) .lines) (st .last) (numberOf line))) (refusedBy n (isOpen (st .phase)))
 start-by st line zero =
-    ap (λ (x : Told). eventNumbers (x .event)) (begins-by st line 0 refl) ∙ begun-numbers st line ∙ sym (pick-true _ _ refl)
+    ap (λ (x : Told). eventNumbers (x .event)) (begins-by st line 0 refl) ∙ begun-numbers st (numberOf line) (settingsOf line) ∙ sym (pick-true _ _ refl)
 start-by st line (suc n) =
     ap (λ (x : Told). eventNumbers (x .event)) (refuses-by st line (suc n) (λ e. omega arith)) ∙ ap (refusedBy (suc n)) (open-is (st .phase)) ∙ sym (pick-false _ _ (eqb·suc-zero n))
 
 pub start-numbers : (st : Reader) (line : List ℕ) → eventNumbers (starts st (checkedOf (st .system) (st .mode) line) .event) ≡ startBy st line
 unfolding checkedOf startBy
 start-numbers st line = start-by st line (lineFault (st .system) (st .mode) line)
+
+pub start-numbered : (st : Reader) (line : List ℕ) (x : Told) → x ≡ starts st (checkedOf (st .system) (st .mode) line)
+    → (x ≡ starts st (checkedOf (st .system) (st .mode) line)) × (eventNumbers (x .event) ≡ startBy st line)
+start-numbered st line x e = (e, ap (λ (y : Told). eventNumbers (y .event)) e ∙ start-numbers st line)
 
 -- ---- a line begun
 later-numbers : (st : Reader) (q : ℕ) (p : Phase) (met : Met) → eventNumbers (toldBy st q p met .event) ≡ laterBy (metNumbers met)

@@ -15,16 +15,19 @@ use line::systems;
 use machine::phase;
 use machine::phase::Phase;
 ghost use mathlib.Core.Path.{_≡_};
+ghost use mathlib.Core.Bool.{_&&_, not};
 ghost use Rattle.lists.specs.Tests.{pick};
 ghost use Rattle.line.specs.Systems.{systemOf};
 ghost use Rattle.line.specs.Check.{checkedOf};
 ghost use Rattle.machine.specs.declared.phase.Phase.the-variants.{Idle};
 ghost use Rattle.reader.specs.Jump.{jumpFrom};
+ghost use Rattle.reader.specs.Events.{eventNumbers};
 ghost use Rattle.reader.specs.Reading.{refused, goesOn, begun, starts};
+ghost use Rattle.reader.specs.Numbers.{jumpBy, isOpen, refusedBy, begunBy, startBy};
 
-// A line with a fault: an open block is dropped, and the last number is forgotten.
+// A line with a fault: an open block is dropped, and the last number is forgotten. Each of the three says the numbers of its event beside it.
 pub fn refuse(st: Reader, fault: u8) -> Told
-    ensures { λ r. ⌜ r ≡ refused st fault ⌝ }
+    ensures { λ r. ⌜ (r ≡ refused st fault) × (eventNumbers (r .event) ≡ refusedBy fault (isOpen (st .phase))) ⌝ }
 {
     let phase = st.phase;
     let settings = st.settings;
@@ -66,7 +69,8 @@ fn phase_at_start(goes: bool, phase: Phase) -> Phase
 
 // A line without fault.
 pub fn begin_line(st: Reader, n: u16, t: Settings) -> Told
-    ensures { λ r. ⌜ r ≡ begun st n t ⌝ }
+    ensures { λ r. ⌜ (r ≡ begun st n t)
+        × (eventNumbers (r .event) ≡ begunBy n (isOpen (st .phase) && not (goesOn st n t)) (jumpBy (systemOf (st .system) .lines) (st .last) n)) ⌝ }
 {
     let phase = st.phase;
     let goes = goes_on(st, n, t);
@@ -86,7 +90,7 @@ pub fn begin_line(st: Reader, n: u16, t: Settings) -> Told
 
 // The line check decides.
 pub fn start(st: Reader, line: &[u16]) -> Told
-    ensures { λ r. ⌜ r ≡ starts st (checkedOf (st .system) (st .mode) (now (line .entry))) ⌝ }
+    ensures { λ r. ⌜ (r ≡ starts st (checkedOf (st .system) (st .mode) (now (line .entry)))) × (eventNumbers (r .event) ≡ startBy st (now (line .entry))) ⌝ }
 {
     let c = check::check(st.system, st.mode, line);
     if c.fault != 0 {

@@ -7,6 +7,7 @@ use lib.Dec.{eqb, ltb}
 use lib.ListN.{length}
 use Rattle.machine.specs.Places.{placesIn, walkPlaces, walkFixed}
 use Rattle.machine.proofs.PlaceLaws.{fixed-none, fixed-walk, fixed-fits, front-stops, front-fit}
+use Rattle.machine.proofs.WalkNumberLaws.{fixed-numbered}
 use borrow.Author.Needs.{needs}
 use Rattle.machine.proofs.places.walk_fixed.Statement.{statement}
 use Rattle.machine.proofs.places.walk_fixed.Tie as tie
@@ -33,7 +34,8 @@ less-requires : tie.Need-less-requires
 less-requires c κs = search needs
 
 returns : tie.Need-returns
-returns c = let a = c .before .before .before .before .args in fixed-none (a .mode) (a .phase) (a .size) (a .words .now) (a .room .now) (sym (asked (c .before)) ∙ c .if1 .taken)
+returns c = let a = c .before .before .before .before .args in
+    fixed-numbered (a .mode) (a .phase) (a .size) (a .words .now) (a .room .now) _ (fixed-none (a .mode) (a .phase) (a .size) (a .words .now) (a .room .now) (sym (asked (c .before)) ∙ c .if1 .taken))
 
 walk-all-requires : tie.Need-walk-all-requires
 walk-all-requires c κs = fitting (c .before .before)
@@ -42,7 +44,10 @@ same-length : tie.Need-same-length
 same-length c = search needs
 
 returns-2 : tie.Need-returns-2
-returns-2 c = c .before .before .walk-all .ensures ∙ whole (c .before .before .before .before .before)
+returns-2 c =
+    let o = c .before .before .before .before .before in
+    let a = o .before .before .before .before .args in
+    fixed-numbered (a .mode) (a .phase) (a .size) (a .words .now) (a .room .now) _ (c .before .before .walk-all .ensures ∙ whole o)
 
 shared-slice-read-met-at : tie.Need-shared-slice-read-met-at
 shared-slice-read-met-at c = let e = c .before in omega (arith, e .if2 .left, fitting (e .before) .0)
@@ -63,7 +68,10 @@ same-length-2 : tie.Need-same-length-2
 same-length-2 c = search needs
 
 returns-3 : tie.Need-returns-3
-returns-3 c = c .before .before .walk-all2 .ensures ∙ whole (c .before .before .before .before .before .before .before .before .before)
+returns-3 c =
+    let o = c .before .before .before .before .before .before .before .before .before in
+    let a = o .before .before .before .before .args in
+    fixed-numbered (a .mode) (a .phase) (a .size) (a .words .now) (a .room .now) _ (c .before .before .walk-all2 .ensures ∙ whole o)
 
 sub-put-place : tie.Need-sub-put-place
 sub-put-place c = let h = fitting (c .before .before .before .before .before) .0 in search needs
@@ -92,9 +100,10 @@ returns-4 c =
     let e = m .before .before in
     let o = e .before in
     let a = o .before .before .before .before .args in
-    front-stops (a .mode) (a .phase) (a .size) (fitting o .0) (a .words .now) (a .room .now) _ (m .met-at .result) (e .if2 .left) (m .met-at .ensures)
+    fixed-numbered (a .mode) (a .phase) (a .size) (a .words .now) (a .room .now) _
+    (front-stops (a .mode) (a .phase) (a .size) (fitting o .0) (a .words .now) (a .room .now) _ (m .met-at .result) (e .if2 .left) (m .met-at .ensures)
     (sym (n .is-nothing .ensures) ∙ f .if3 .left) (p .put-place .ensures)
-    ∙ whole o
+    ∙ whole o)
 
 pub walk-fixed-spec : {M : Type 1} → statement M
 walk-fixed-spec =

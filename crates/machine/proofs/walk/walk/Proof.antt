@@ -7,6 +7,7 @@ use Rattle.machine.specs.Walk.{walkOf}
 use Rattle.machine.specs.Runs.{takenBy, ranRoom}
 use Rattle.machine.proofs.Going.{Going, going-start, rest-lent, going-run, going-end, going-word, going-stop}
 use borrow.Author.Tests.{not-true, not-false}
+use Rattle.machine.proofs.WalkNumberLaws.{walk-numbered}
 use borrow.Author.Needs.{needs}
 use Rattle.machine.proofs.walk.walk.Statement.{statement}
 use Rattle.machine.proofs.walk.walk.Tie as tie
@@ -65,7 +66,7 @@ same-length : tie.Need-same-length Inv-loop μ-loop
 same-length c = search needs
 
 returns : tie.Need-returns Inv-loop μ-loop
-returns c = going-end _ _ _ _ _ _ (ran (c .before .before .before .before)) (c .if1 .taken)
+returns c = walk-numbered _ _ _ _ _ (going-end _ _ _ _ _ _ (ran (c .before .before .before .before)) (c .if1 .taken))
 
 mul-take-word : tie.Need-mul-take-word Inv-loop μ-loop
 mul-take-word c = search needs
@@ -89,8 +90,9 @@ returns-2 : tie.Need-returns-2 Inv-loop μ-loop
 returns-2 c =
     let w = c .before .before .before .before in
     let t = w .before .before .before .before .before .before .before in
-    going-stop _ _ _ _ _ _ (ran t) (w .before .before .before .if1 .left) (w .take-word .result) (w .take-word .ensures .0) _ (w .take-word .ensures .1)
-    (sym (c .before .is-nothing .ensures) ∙ not-true _ (c .if2 .taken))
+    walk-numbered _ _ _ _ _
+    (going-stop _ _ _ _ _ _ (ran t) (w .before .before .before .if1 .left) (w .take-word .result) (w .take-word .ensures .0) _ (w .take-word .ensures .1)
+    (sym (c .before .is-nothing .ensures) ∙ not-true _ (c .if2 .taken)))
 
 loop-less : tie.Need-loop-less Inv-loop μ-loop
 loop-less c = search needs
@@ -108,7 +110,7 @@ same-length-3 : tie.Need-same-length-3 Inv-loop μ-loop
 same-length-3 c = search needs
 
 returns-3 : tie.Need-returns-3 Inv-loop μ-loop
-returns-3 c = going-end _ _ _ _ _ _ (c .before .loop .inv .0) (c .loop-test .left)
+returns-3 c = walk-numbered _ _ _ _ _ (going-end _ _ _ _ _ _ (c .before .loop .inv .0) (c .loop-test .left))
 
 pub walk-spec : {M : Type 1} → statement M
 walk-spec =

@@ -1,5 +1,6 @@
 -- `reader::begin::begin_line` meets its contract. Assumes nothing.
 use Rattle.reader.specs.Reading.{begun}
+use Rattle.reader.proofs.NumberLaws.{begin-numbered}
 use borrow.Author.Needs.{needs}
 use Rattle.reader.proofs.begin.begin_line.Statement.{statement}
 use Rattle.reader.proofs.begin.begin_line.Tie as tie
@@ -21,7 +22,10 @@ becomes-requires c κs = search needs
 
 returns : tie.Need-returns
 unfolding begun
-returns c = simp (c .becomes .ensures, c .before .phase-at-start .ensures, c .before .before .is-busy .ensures, c .before .before .before .jump-to .ensures, c .before .before .before .before .goes-on .ensures)
+returns c =
+    let a = c .before .before .before .before .before .args in
+    begin-numbered (a .st) (a .n) (a .t) _
+    (simp (c .becomes .ensures, c .before .phase-at-start .ensures, c .before .before .is-busy .ensures, c .before .before .before .jump-to .ensures, c .before .before .before .before .goes-on .ensures))
 
 pub begin-line-spec : {M : Type 1} → statement M
 begin-line-spec =

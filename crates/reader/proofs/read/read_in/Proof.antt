@@ -39,7 +39,7 @@ returns-2 : tie.Need-returns-2
 returns-2 c =
     let f = c .before .before .before in
     let g = f .before .before .before .before .before .args in
-    ap (λ (t : Told). call t (g .room .now)) (c .start .ensures)
+    ap (λ (t : Told). call t (g .room .now)) (c .start .ensures .0)
     ∙ ap (λ (p : Place). readFrom p (g .st) (g .line .now) (g .room .now)) (sym (c .before .enum-told .given .1))
     ∙ read-goes (g .capacity) (g .st) (g .line .now) (g .room .now) _ (f .before .before .ask .ensures .0) (f .if1 .left)
 

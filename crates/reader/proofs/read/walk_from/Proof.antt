@@ -87,7 +87,7 @@ returns c =
     let v = c .before .before .before .before .before .before in
     let x = v .before .before .before in
     let g = x .before .before .before .args in
-    c .before .before .walk .ensures
+    c .before .before .walk .ensures .0
     ∙ ap (λ (ws : List ℕ). walkOf (g .st .mode) (g .st .phase) ws (g .room .now)) (spanned x .words)
     ∙ sym (pick-true _ _ (sym (v .is-variable .ensures) ∙ c .before .before .before .before .before .if1 .taken))
 
@@ -120,7 +120,7 @@ returns-2 c =
     let k : ℕ → ℕ → List ℕ → _ = λ size places ws. walkPlaces (g .st .mode) (g .st .phase) (placesIn size places ws) (g .room .now) in
     let grid = gridded n in
     let fits = block-fits _ _ _ _ (x .before .before .before .pre .0) (is-ready x) (x .system-of .result) (x .system-of .ensures) (x .before .before .before .pre .2) (fixed-line n) in
-    c .before .before .walk-fixed .ensures
+    c .before .before .walk-fixed .ensures .0
     ∙ ap (λ (ws : List ℕ). walkFixed (g .st .mode) (g .st .phase) (g .size) ws (g .room .now)) (spanned x .words)
     ∙ fixed-walk (g .st .mode) (g .st .phase) (g .size) ws (g .room .now) (grid .one) (omega (arith, fits, x .before .before .before .pre .4))
     ∙ ap (λ (places : ℕ). k (g .size) places ws) (grid .count)
