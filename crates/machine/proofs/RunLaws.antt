@@ -13,7 +13,7 @@ use lib.Seq.{length-take-le, take-suc-set, drop-set-lt, append-snoc, paste, past
 use borrow.Rule.Slice.PartMut.{putMid}
 use borrow.Author.Tests.{lt-leb, lt-ltb}
 use Rattle.lists.specs.Tests.{pick}
-use Rattle.lists.proofs.Tests.{pick-true, pick-false}
+use Rattle.lists.proofs.Tests.{pick-true, pick-false, and-none}
 use Rattle.lists.proofs.Lists.{map-part}
 use Rattle.lists.proofs.Loops.{next-drop, mid-paste}
 use Rattle.words.specs.Modes.{valueOf}
@@ -28,7 +28,6 @@ use Rattle.machine.specs.Machine.{on, idleStep, valueStep, dataStep, ste
 use Rattle.machine.specs.Walk.{Walk, past, stored, walkOf}
 use Rattle.machine.specs.Runs.{runOf, endOf, takenBy, ranPhase, ranRoom}
 use Rattle.machine.proofs.WalkLaws.{past-zero, past-past, word-goes}
-use Rattle.machine.proofs.Kept.{and-none}
 
 -- ---- where a run ends
 pub run-code : (w : ℕ) (ws : List ℕ) → isCode (classOf w) ≡ true → runOf (w ∷ ws) ≡ 0
@@ -85,14 +84,15 @@ idle-word : (room w : ℕ) → isCode (classOf w) ≡ false → stepOf room Idle
 unfolding stepOf
 idle-word room w e = idle-class (classOf w) e
 
-data-class : (room k n m : ℕ) (c : Class) → isCode c ≡ false → dataStep room k n m c ≡ valueStep room k n m
+pub data-class : (room k n m : ℕ) (c : Class) → isCode c ≡ false → dataStep room k n m c ≡ valueStep room k n m
 data-class room k n m Byte e = refl
 data-class room k n m Other e = refl
 data-class room k n m Separator e = absurd (subst T e tt)
 data-class room k n m Ending e = absurd (subst T e tt)
 data-class room k n m Illegal e = refl
 
-abbrev collecting : ℕ → ℕ → ℕ → Step
+-- the step of a value that is kept
+abbrev pub collecting : ℕ → ℕ → ℕ → Step
 collecting k n m = record { phase = Data k n (m + 1); met = Nothing; keeps = true }
 
 -- there is space for a word
@@ -105,7 +105,7 @@ has-space room n m = go (eqb n 0)
     go false h = (omega arith, lt-leb n m (omega arith))
 
 -- a value that is not past a met count, and for which there is room
-pub value-kept : (room k n m : ℕ) → (not (eqb n 0) && leb n m) ≡ false → m < room → valueStep room k n m ≡ record { phase = Data k n (m + 1); met = Nothing; keeps = true }
+pub value-kept : (room k n m : ℕ) → (not (eqb n 0) && leb n m) ≡ false → m < room → valueStep room k n m ≡ collecting k n m
 unfolding valueStep
 value-kept room k n m e h =
     pick-false _ _ e ∙ pick-false _ _ (and-none (eqb n 0) (leb room m) (lt-leb room m h))

@@ -10,17 +10,16 @@ use lib.Dec.{T, eqb, ltb}
 use lib.ListN.{length, getD, drop, length-drop}
 use borrow.Author.Tests.{eqb-true, eqb-false, eq-eqb, le-leb, le-ltb, ltb-false, not-false}
 use Rattle.lists.specs.Tests.{pick}
-use Rattle.lists.proofs.Tests.{true-false, or-left, or-right, or-false, false-or, both-true, and-true, pick-true, pick-false}
+use Rattle.lists.proofs.Tests.{true-false, or-right, or-false, false-or, both-true, and-true, pick-true, pick-elim}
 use Rattle.lists.proofs.Refusals.{given-holds}
 use Rattle.line.specs.declared.settings.Settings.{Settings}
 use Rattle.course.specs.declared.Place.{Place}
 use Rattle.course.specs.declared.Place.the-variants.{Shut, At}
 use Rattle.line.specs.Systems.{systemOf}
 use Rattle.line.specs.Fixed.{sizeOf, isVariable}
-use Rattle.line.specs.Settings.{settingsFaults, sameSettings}
-use Rattle.line.proofs.SettingsLaws.{same-block}
+use Rattle.line.specs.Settings.{settingsFaults}
 use Rattle.course.specs.Course.{isAt, placeOf, misplaced, impossibleAfter}
-use Rattle.course.proofs.CourseLaws.{at-place, start-placed, variable-placed, grid-next, grid-room}
+use Rattle.course.proofs.CourseLaws.{at-place, begins, variable-placed, grid-next, grid-room}
 use Rattle.writer.specs.declared.state.Rest.{Rest}
 use Rattle.writer.specs.declared.state.Rest.the-variants.{Whole, Part}
 use Rattle.writer.specs.declared.state.Writer.{Writer}
@@ -30,9 +29,9 @@ use Rattle.writer.specs.declared.state.Laid.{Laid}
 use Rattle.writer.specs.declared.state.Laid.the-variants.{Not, Finished, Unfinished}
 use Rattle.writer.specs.State.{most, isPart, laidOf, fresh, misshapen, impossible, endIn, moved, openState}
 use Rattle.writer.specs.Block.{wordsIn}
-use Rattle.writer.specs.Answers.{answerNumbers, laidNumbers, left, Added, added}
-use Rattle.writer.specs.Opening.{openBlocked, openFaults, openFault, opening}
-use Rattle.writer.specs.Adding.{illShaped, isOther, addFaults, addFault, todo, room, lay, adding}
+use Rattle.writer.specs.Answers.{answerNumbers, laidNumbers, Left, left, Added, added}
+use Rattle.writer.specs.Opening.{openFaults, openFault, opening}
+use Rattle.writer.specs.Adding.{illShaped, isOther, addFaults, addFault, todo, room, adding}
 use Rattle.writer.specs.Closing.{closeFaults, closeFault, closing}
 use Rattle.writer.proofs.BlockLaws.{words-variable, words-fixed, block-long, fixed-long}
 use Rattle.writer.proofs.Refusals.{Begun, begun, possible-by, can-open, CanAdd, can-add, can-close}
@@ -45,55 +44,35 @@ moved-begun w p r b x y z =
     record { course = record { number = c .number; numbered = c .numbered; range = c .range; clean = c .clean; placed = x; varied = y }; shaped = z }
 
 -- ---- opening: an unfinished block stays, with the same settings
-rest-of : (w : Writer) → impossible w ≡ false → misshapen (w .rest) ≡ false
+parts-of : (w : Writer) → impossible w ≡ false
+    → (impossibleAfter (w .system) (w .last) (w .settings) (w .place) (isPart (w .rest)) ≡ false) × (misshapen (w .rest) ≡ false)
 unfolding impossible
-rest-of w e = or-false (impossibleAfter (w .system) (w .last) (w .settings) (w .place) (isPart (w .rest))) (misshapen (w .rest)) e .1
-
-varied-by : (w : Writer) (t : Settings) (b c d : Bool) → isPart (w .rest) ≡ b → impossible w ≡ false → sameSettings t (w .settings) ≡ c → (b && (not c || d)) ≡ false
-    → (isPart (w .rest) && not (isVariable (t .block))) ≡ false
-varied-by w t false c d is e h z = ap (λ (x : Bool). x && not (isVariable (t .block))) is
-varied-by w t true false d is e h z = absurd (subst T z tt)
-varied-by w t true true d is e h z =
-    ap (λ (x : ℕ). isPart (w .rest) && not (isVariable x)) (same-block t (w .settings) h) ∙ begun w e (or-left (isPart (w .rest)) (isAt (w .place)) is) .course .varied
+parts-of w e = or-false _ (misshapen (w .rest)) e
 
 open-begun : (w : Writer) (n : ℕ) (t : Settings) (long : ℕ) → openFault w n t long ≡ 0 → Begun (openState w n t)
-unfolding openBlocked
 open-begun w n t long ok =
     let o = can-open w n t long ok in
-    record {
-      course =
-          record {
-            number = n;
-            numbered = refl;
-            range = ap not (and-true (le-leb 1 n (o .one)) (le-leb n _ (o .last)));
-            clean = ap not (eq-eqb _ _ (o .clean));
-            placed = start-placed (w .system) t (o .clean);
-            varied = varied-by w t (isPart (w .rest)) (sameSettings t (w .settings)) _ refl (o .state) refl (or-false (isAt (w .place)) _ (o .free) .1);
-          };
-      shaped = rest-of w (o .state);
-    }
-
--- a call by its fault
-open-by : (w : Writer) (b : Bool) (n : ℕ) (s : Writer) (l line : List ℕ) → impossible w ≡ false → (b ≡ true → impossible s ≡ false)
-    → impossible (pick b (left Done s l) (left (Refused n) w line) .state) ≡ false
-unfolding pick
-open-by w true n s l line e h = h refl
-open-by w false n s l line e h = e
+    let range = ap not (and-true (le-leb 1 n (o .one)) (le-leb n _ (o .last))) in
+    let kept = parts-of w (o .state) in
+    let part = isPart (w .rest) in
+    record { course = begins (w .system) (w .last) (w .settings) t (w .place) part part n (kept .0) range (o .clean) (λ e. (e, o .goes e .0)); shaped = kept .1 }
 
 pub open-possible : (w : Writer) (f v : Bool) (n : ℕ) (t : Settings) (line : List ℕ) → impossible w ≡ false → impossible (opening w f v n t line .state) ≡ false
 unfolding opening
 open-possible w f v n t line e =
-    open-by w (eqb (openFault w n t (length line)) 0) _ (openState w n t) _ line e (λ h. possible-by (openState w n t) (open-begun w n t (length line) (eqb-true _ _ h)))
+    pick-elim (λ (x : Left). impossible (x .state) ≡ false) (eqb (openFault w n t (length line)) 0)
+    (λ h. possible-by (openState w n t) (open-begun w n t (length line) (eqb-true _ _ h))) (λ h. e)
 
 -- ---- closing
 pub close-possible : (w : Writer) (line : List ℕ) → impossible w ≡ false → impossible (closing w line .state) ≡ false
 unfolding closing
 close-possible w line e =
-    open-by w (eqb (closeFault w (length line)) 0) _ (moved w Shut (w .rest)) _ line e
+    pick-elim (λ (x : Left). impossible (x .state) ≡ false) (eqb (closeFault w (length line)) 0)
     (λ h.
     let c = can-close w line (eqb-true _ _ h) in
     let b = begun w e (or-right (isPart (w .rest)) (isAt (w .place)) (c .begun)) in
     possible-by (moved w Shut (w .rest)) (moved-begun w Shut (w .rest) b refl (b .course .varied) (b .shaped)))
+    (λ h. e)
 
 -- ---- a fresh writer
 pub fresh-possible : (system mode : ℕ) → impossible (fresh system mode) ≡ false
@@ -237,16 +216,11 @@ module _ (w : Writer) (line : List ℕ) (kind : ℕ) (vs : List ℕ) (ok : addFa
       go true v = variable-after v
       go false v = fixed-after v
 
-add-by : (w : Writer) (b : Bool) (n : ℕ) (x : Added) (line : List ℕ) → impossible w ≡ false → (b ≡ true → impossible (x .state) ≡ false)
-    → impossible (pick b x (added (Not n) w line) .state) ≡ false
-unfolding pick
-add-by w true n x line e h = h refl
-add-by w false n x line e h = e
-
 pub add-possible : (w : Writer) (line : List ℕ) (kind : ℕ) (vs : List ℕ) → impossible w ≡ false → impossible (adding w line kind vs .state) ≡ false
 unfolding adding
 add-possible w line kind vs e =
-    add-by w (eqb (addFault w (length line) kind vs) 0) _ (lay w line kind vs) line e (λ h. possible-by _ (add-begun w line kind vs (eqb-true _ _ h)))
+    pick-elim (λ (x : Added). impossible (x .state) ≡ false) (eqb (addFault w (length line) kind vs) 0)
+    (λ h. possible-by _ (add-begun w line kind vs (eqb-true _ _ h))) (λ h. e)
 
 -- ---- any calls, from a fresh writer on
 pub data Reached (system mode : ℕ) : Writer → Type 0 where
