@@ -30,7 +30,7 @@ pub end-found : (p block flag : ℕ) (row : Fixed) → row ≡ fixedOf block
 unfolding blocksEnd placesOf sizeOf
 end-found p block flag row hr = ap (λ (x : Fixed). pick (isVariable block) (areaLength p flag) (pick (eqb p 1440) (x .at270) (x .at360) * x .size)) hr
 
-pub found-misplaced : (p block flag : ℕ) (place : Place) → misplacedBy (isVariable block) (blocksEnd p block flag) (sizeOf block) place ≡ misplaced p block flag place
+found-misplaced : (p block flag : ℕ) (place : Place) → misplacedBy (isVariable block) (blocksEnd p block flag) (sizeOf block) place ≡ misplaced p block flag place
 unfolding offGrid
 found-misplaced p block flag Shut = refl
 found-misplaced p block flag (At q) = refl
