@@ -220,12 +220,13 @@ pub begun-possible : (system : ℕ) (last : Last) (t : Settings) (place : Place)
 begun-possible system last t place busy b =
     ap (λ (l : Last). impossibleAfter system l t place busy) (b .numbered) ∙ false-or (b .range) (false-or (b .clean) (false-or (b .placed) (b .varied)))
 
--- a line begun at its first word: with a good number and good settings, and a block open only if it was and has its settings still
-pub begins : (system : ℕ) (last : Last) (held t : Settings) (place : Place) (was is : Bool) (n : ℕ) → impossibleAfter system last held place was ≡ false
+-- a line begun: with a good number, good settings and a place where it may stand, and a block open only if it was and has its settings still
+pub begins : (system : ℕ) (last : Last) (held t : Settings) (place to : Place) (was is : Bool) (n : ℕ) → impossibleAfter system last held place was ≡ false
     → not (leb 1 n && leb n (systemOf system .lines)) ≡ false → settingsFault system t ≡ 0
-    → (is ≡ true → (was ≡ true) × (sameSettings t held ≡ true)) → Begun system (Number n) t (At 0) is
-begins system last held t place was is n possible range clean goes =
-    record { number = n; numbered = refl; range = range; clean = ap not (eq-eqb _ _ clean); placed = start-placed system t clean; varied = go is refl }
+    → misplaced (systemOf system .payload) (t .block) (t .flag) to ≡ false
+    → (is ≡ true → (was ≡ true) × (sameSettings t held ≡ true)) → Begun system (Number n) t to is
+begins system last held t place to was is n possible range clean placed goes =
+    record { number = n; numbered = refl; range = range; clean = ap not (eq-eqb _ _ clean); placed = placed; varied = go is refl }
   where
     go : (b : Bool) → is ≡ b → (is && not (isVariable (t .block))) ≡ false
     go false e = ap (λ (x : Bool). x && not (isVariable (t .block))) e

@@ -21,7 +21,7 @@ use Rattle.line.specs.Settings.{settingsFaults, settingsFault, sameSettings}
 use Rattle.line.specs.Check.{low, numberOf, settingsOf, numbered, headFaults, payloadFaults, faults, lineFaults, lineFault, checkedFrom, checkedOf}
 use Rattle.course.specs.Course.{misplaced}
 use Rattle.line.proofs.CheckLaws.{check-rising, fault-not-2}
-use Rattle.course.proofs.CourseLaws.{variable-placed, grid-next, grid-left, begun, begins}
+use Rattle.course.proofs.CourseLaws.{start-placed, variable-placed, grid-next, grid-left, begun, begins}
 use Rattle.machine.specs.declared.phase.Phase.{Phase}
 use Rattle.machine.specs.declared.phase.Phase.the-variants.{Idle}
 use Rattle.machine.specs.declared.step.Met.{Met}
@@ -87,7 +87,7 @@ begin-possible : (c : ℕ) (st : Reader) (n : ℕ) (t : Settings) → impossible
 unfolding beginning
 begin-possible c st n t e range clean =
     let k = kept-by c st t (goesOn st n t) e (goes-same st n t) in
-    possible-by c _ (begins (st .system) (st .last) (st .settings) t (st .place) (isBusy (st .phase)) _ n (course-of c st e) range clean (k .0)) (k .1)
+    possible-by c _ (begins (st .system) (st .last) (st .settings) t (st .place) _ (isBusy (st .phase)) _ n (course-of c st e) range clean (start-placed (st .system) t clean) (k .0)) (k .1)
 
 start-possible : (c : ℕ) (st : Reader) (mode : ℕ) (line : List ℕ) → impossibleIn c st ≡ false → impossibleIn c (starts st (checkedOf (st .system) mode line) .state) ≡ false
 unfolding starts
