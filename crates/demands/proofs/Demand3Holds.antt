@@ -13,7 +13,7 @@ use Rattle.course.specs.declared.Last.{Last}
 use Rattle.course.specs.declared.Last.the-variants.{Unknown, Number}
 use Rattle.course.specs.Course.{isAt}
 use Rattle.writer.specs.declared.state.Rest.{Rest}
-use Rattle.writer.specs.declared.state.Rest.the-variants.{Whole}
+use Rattle.writer.specs.declared.state.Rest.the-variants.{NoBlock}
 use Rattle.writer.specs.Answers.{Left}
 use Rattle.writer.specs.State.{laidOf}
 use Rattle.writer.specs.Course.{asLaid}
@@ -128,7 +128,7 @@ module _ (system mode : ℕ) (cs : List Call) (fs : List Fate) (x : Transmission
   all-served : All IsFrom3 hs
   all-served = served-by (systemOf system .lines) (keptAt fs) Unknown false fs (sentFresh system mode cs) hs tells
 
-as-lent : (d : Desk) (vs : List ℕ) → (d .writer .rest ≡ Whole) ⊎ (d .values ≡ vs) → valuesNow d vs ≡ vs
+as-lent : (d : Desk) (vs : List ℕ) → (d .writer .rest ≡ NoBlock) ⊎ (d .values ≡ vs) → valuesNow d vs ≡ vs
 as-lent d vs =
     ⊎-elim (λ e. ap (λ (r : Rest). asLaid (laidOf r) (d .values) vs) e)
     (λ e. ap (λ (l : List ℕ). asLaid (laidOf (d .writer .rest)) l vs) e ∙ take-append-drop (laidOf (d .writer .rest) - 6) vs)

@@ -13,7 +13,7 @@ use Rattle.line.specs.Layout.{areaLength}
 use Rattle.line.specs.Check.{settingsOf}
 use Rattle.course.specs.declared.Place.the-variants.{Shut}
 use Rattle.course.specs.Course.{nextNumber}
-use Rattle.writer.specs.declared.state.Rest.the-variants.{Whole}
+use Rattle.writer.specs.declared.state.Rest.the-variants.{NoBlock}
 use Rattle.reader.specs.declared.state.Reader.{Reader}
 use Rattle.reader.specs.State.{capacity, fresh}
 use Rattle.demands.specs.All.{All}
@@ -59,7 +59,7 @@ pub record Demand3 : Type 0 where
   -- the bound is needed: with runs of one frame it is false, of system 0 in 8-bit mode
   pub needed : HandsOut 0 8 (systemOf 0 .lines + 1) → ⊥
   -- the values are those laid: of a new block those lent, and of a block lent again unchanged the same
-  pub lent : (d : Desk) (vs : List ℕ) → (d .writer .rest ≡ Whole) ⊎ (d .values ≡ vs) → valuesNow d vs ≡ vs
+  pub lent : (d : Desk) (vs : List ℕ) → (d .writer .rest ≡ NoBlock) ⊎ (d .values ≡ vs) → valuesNow d vs ≡ vs
   -- such a course of reading calls exists, each line ends within area + 2 calls, and neither 1 nor 2 is answered
   pub readable : (system mode : ℕ) (room : List ℕ) (lines : List (List ℕ)) → Readable (fresh system mode) room lines
   pub ends : (st : Reader) (line room : List ℕ) → st .place ≡ Shut → (hs : List Heard) (st′ : Reader) (room′ : List ℕ) → Lends line st room hs st′ room′

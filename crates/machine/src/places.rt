@@ -104,7 +104,7 @@ fn walk_places(mode: u8, phase: Phase, size: usize, words: &[u16], room: &mut [u
 pub fn walk_fixed(mode: u8, phase: Phase, size: usize, words: &[u16], room: &mut [u16]) -> Walked
     ensures { λ r. ⌜ leaves r (now (room .exit)) ≡ walkFixed mode phase size (now (words .entry)) (now (room .entry)) ⌝ }
 {
-    if (size == 0) | (room.len() < lists::less(size, 1)) {
+    if (size == 0) | (room.len() < lists::minus_or_zero(size, 1)) {
         return Walked {
             phase: phase,
             met: Met::Nothing,

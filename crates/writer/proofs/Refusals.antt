@@ -25,7 +25,7 @@ use Rattle.line.proofs.AreaLaws.{area-most}
 use Rattle.course.proofs.CourseLaws as laws
 use Rattle.course.proofs.CourseLaws.{end-in-area}
 use Rattle.writer.specs.declared.state.Rest.{Rest}
-use Rattle.writer.specs.declared.state.Rest.the-variants.{Whole, Part}
+use Rattle.writer.specs.declared.state.Rest.the-variants.{NoBlock, Part}
 use Rattle.writer.specs.declared.state.Writer.{Writer}
 use Rattle.writer.specs.State.{most, isPart, laidOf, misshapen, impossible, endIn}
 use Rattle.writer.specs.Adding.{valued, illShaped, isFull, isOther, addFaults, addFault}
@@ -70,7 +70,7 @@ possible-by w b = false-or (laws.begun-possible (w .system) (w .last) (w .settin
 -- ---- an unfinished block has a word left
 laid-below : (block : ℕ) (rest : Rest) (kind n : ℕ) → (isPart rest && not (isVariable block)) ≡ false → misshapen rest ≡ false → isOther rest kind n ≡ false
     → laidOf rest < count block n
-laid-below block Whole kind n v m o = count-between block n .0
+laid-below block NoBlock kind n v m o = count-between block n .0
 laid-below block (Part k c j) kind n v m o =
     let a = or-false (ltb most c) _ m .1 in
     let b = ltb-false (c + 6) j (or-false (ltb j 1) (ltb (c + 6) j) a .1) in

@@ -10,16 +10,16 @@ use Rattle.machine.proofs.places.walk_fixed.Statement.{statement}
 use Rattle.machine.proofs.places.walk_fixed.Tie as tie
 
 -- the test is the definition's
-asked : (l : tie.After-less) →
+asked : (l : tie.After-minus-or-zero) →
     let a = l .before .before .before .args in
-    (eqb (a .size) 0 || ltb (length (a .room .now)) (l .less .result)) ≡ (eqb (a .size) 0 || ltb (length (a .room .now)) (a .size - 1))
-asked l = let a = l .before .before .before .args in ap (λ (n : ℕ). eqb (a .size) 0 || ltb (length (a .room .now)) n) (l .less .ensures)
+    (eqb (a .size) 0 || ltb (length (a .room .now)) (l .minus-or-zero .result)) ≡ (eqb (a .size) 0 || ltb (length (a .room .now)) (a .size - 1))
+asked l = let a = l .before .before .before .args in ap (λ (n : ℕ). eqb (a .size) 0 || ltb (length (a .room .now)) n) (l .minus-or-zero .ensures)
 
 fitting : (e : tie.Else1) → let a = e .before .before .before .before .args in (1 ≤ a .size) × (a .size - 1 ≤ length (a .room .now))
 fitting e = let a = e .before .before .before .before .args in fixed-fits (a .size) (length (a .room .now)) (sym (asked (e .before)) ∙ e .if1 .left)
 
-less-requires : tie.Need-less-requires
-less-requires c κs = search needs
+minus-or-zero-requires : tie.Need-minus-or-zero-requires
+minus-or-zero-requires c κs = search needs
 
 returns : tie.Need-returns
 returns c = let a = c .before .before .before .before .args in fixed-none (a .mode) (a .phase) (a .size) (a .words .now) (a .room .now) (sym (asked (c .before)) ∙ c .if1 .taken)
@@ -38,4 +38,4 @@ returns-2 c =
     c .before .before .walk-places .ensures ∙ sym (fixed-walk (a .mode) (a .phase) (a .size) (a .words .now) (a .room .now) (fit .0) (fit .1))
 
 pub walk-fixed-spec : {M : Type 1} → statement M
-walk-fixed-spec = tie.close (tie.spec less-requires returns walk-places-requires same-length returns-2)
+walk-fixed-spec = tie.close (tie.spec minus-or-zero-requires returns walk-places-requires same-length returns-2)
