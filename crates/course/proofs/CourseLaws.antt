@@ -8,15 +8,15 @@ use native.Mathlib.Omega.{arith}
 use lib.Dec.{eqb, leb, ltb}
 use borrow.Author.Tests.{eqb-true, eqb-false, eq-eqb, le-ltb, ltb-false, not-false}
 use Rattle.lists.specs.Tests.{pick}
-use Rattle.lists.proofs.Tests.{true-false, or-false, false-or, pick-false}
+use Rattle.lists.proofs.Tests.{true-false, or-left, or-false, false-or, pick-false}
 use Rattle.line.specs.declared.settings.Settings.{Settings}
 use Rattle.line.specs.declared.fixed.Fixed.{Fixed}
 use Rattle.line.specs.Systems.{systemOf, isSystem}
 use Rattle.line.specs.Fixed.{isVariable, fixedOf, placesOf, sizeOf, fillsAll, blockRefused}
-use Rattle.line.specs.Settings.{settingsFault}
+use Rattle.line.specs.Settings.{settingsFault, sameSettings}
 use Rattle.line.specs.Layout.{areaLength}
 use Rattle.line.proofs.FixedLaws.{places-in-area, size-some}
-use Rattle.line.proofs.SettingsLaws.{block-passes}
+use Rattle.line.proofs.SettingsLaws.{block-passes, same-block}
 use Rattle.course.specs.declared.Last.{Last}
 use Rattle.course.specs.declared.Last.the-variants.{Unknown, Number}
 use Rattle.course.specs.declared.Place.{Place}
@@ -30,7 +30,7 @@ pub end-found : (p block flag : ℕ) (row : Fixed) → row ≡ fixedOf block
 unfolding blocksEnd placesOf sizeOf
 end-found p block flag row hr = ap (λ (x : Fixed). pick (isVariable block) (areaLength p flag) (pick (eqb p 1440) (x .at270) (x .at360) * x .size)) hr
 
-pub found-misplaced : (p block flag : ℕ) (place : Place) → misplacedBy (isVariable block) (blocksEnd p block flag) (sizeOf block) place ≡ misplaced p block flag place
+found-misplaced : (p block flag : ℕ) (place : Place) → misplacedBy (isVariable block) (blocksEnd p block flag) (sizeOf block) place ≡ misplaced p block flag place
 unfolding offGrid
 found-misplaced p block flag Shut = refl
 found-misplaced p block flag (At q) = refl
@@ -219,3 +219,18 @@ begun system (Number x) t place busy e o =
 pub begun-possible : (system : ℕ) (last : Last) (t : Settings) (place : Place) (busy : Bool) → Begun system last t place busy → impossibleAfter system last t place busy ≡ false
 begun-possible system last t place busy b =
     ap (λ (l : Last). impossibleAfter system l t place busy) (b .numbered) ∙ false-or (b .range) (false-or (b .clean) (false-or (b .placed) (b .varied)))
+
+-- a line begun: with a good number, good settings and a place where it may stand, and a block open only if it was and has its settings still
+pub begins : (system : ℕ) (last : Last) (held t : Settings) (place to : Place) (was is : Bool) (n : ℕ) → impossibleAfter system last held place was ≡ false
+    → not (leb 1 n && leb n (systemOf system .lines)) ≡ false → settingsFault system t ≡ 0
+    → misplaced (systemOf system .payload) (t .block) (t .flag) to ≡ false
+    → (is ≡ true → (was ≡ true) × (sameSettings t held ≡ true)) → Begun system (Number n) t to is
+begins system last held t place to was is n possible range clean placed goes =
+    record { number = n; numbered = refl; range = range; clean = ap not (eq-eqb _ _ clean); placed = placed; varied = go is refl }
+  where
+    go : (b : Bool) → is ≡ b → (is && not (isVariable (t .block))) ≡ false
+    go false e = ap (λ (x : Bool). x && not (isVariable (t .block))) e
+    go true e =
+        let g = goes e in
+        ap₂ (λ (x : Bool) (y : ℕ). x && not (isVariable y)) (e ∙ sym (g .0)) (same-block t held (g .1))
+        ∙ begun system last held place was possible (or-left was (isAt place) (g .0)) .varied

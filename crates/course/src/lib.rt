@@ -6,7 +6,7 @@ ghost use mathlib.Core.Path.{_≡_};
 ghost use Rattle.line.specs.Systems.{systemOf};
 ghost use Rattle.line.specs.Fixed.{fixedOf, sizeOf};
 ghost use Rattle.course.specs.declared.Last.the-variants.{Number};
-ghost use Rattle.course.specs.Course.{nextNumber, isAt, placeOf, blocksEnd, misplaced, impossibleAfter};
+ghost use Rattle.course.specs.Course.{nextNumber, isAt, placeOf, blocksEnd, impossibleAfter};
 ghost use Rattle.course.specs.Looks.{offBy, misplacedBy};
 
 // The last accepted line number (the writer's: last opened), or none.
@@ -93,15 +93,6 @@ fn misplaced_by(variable: bool, end: usize, size: u16, place: Place) -> bool
             is_off(size, q)
         }
     }
-}
-
-// The place is beyond the area, or in a fixed line not where a place starts or the last ends.
-pub fn is_misplaced(payload: usize, block: u8, flag: u8, place: Place) -> bool
-    ensures { λ r. ⌜ r ≡ misplaced payload block flag place ⌝ }
-{
-    let end = blocks_end(payload, block, flag);
-    let size = line::fixed::size_of(block);
-    misplaced_by(line::fixed::is_variable(block), end, size, place)
 }
 
 // What a call asks of the table of fixed blocks: it is looked up once a call, because a call of a fixed line moves few words.

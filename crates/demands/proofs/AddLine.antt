@@ -12,7 +12,7 @@ use Rattle.course.specs.declared.Place.the-variants.{Shut}
 use Rattle.course.specs.Course.{isAt}
 use Rattle.words.specs.Modes.{wordOf}
 use Rattle.writer.specs.declared.state.Rest.{Rest}
-use Rattle.writer.specs.declared.state.Rest.the-variants.{Whole, Part}
+use Rattle.writer.specs.declared.state.Rest.the-variants.{NoBlock, Part}
 use Rattle.writer.specs.declared.state.Laid.the-variants.{Finished, Unfinished}
 use Rattle.writer.specs.State.{most, isPart, laidOf}
 use Rattle.writer.specs.Answers.{Added}
@@ -82,7 +82,7 @@ module _ (system mode cap : ℕ) (keeps : ℕ → Bool) (told gone : Bool) (d : 
   was-begun e = by (d .writer .rest) refl
     where
       by : (r : Rest) → d .writer .rest ≡ r → 1 ≤ laidOf (d .writer .rest)
-      by Whole h = absurd (true-false (sym (ap (allOn keeps) (dk .owes .none-owing h)) ∙ e))
+      by NoBlock h = absurd (true-false (sym (ap (allOn keeps) (dk .owes .none-owing h)) ∙ e))
       by (Part k n j) h = subst (λ (i : ℕ). 1 ≤ i) (sym (ap laidOf h)) (dk .owes .owing k n j h .some)
 
   module _ (q : Now) (y : Varies mode d kind vs) (w : ByWords mode cap keeps d q) where

@@ -8,11 +8,11 @@ use mathlib.Core.Path.{_≡_, refl, sym, ap, _∙_}
 use lib.ListN.{take-append-drop}
 use Rattle.line.specs.declared.settings.Settings.{Settings}
 use Rattle.writer.specs.declared.state.Rest.{Rest}
-use Rattle.writer.specs.declared.state.Rest.the-variants.{Whole, Part}
+use Rattle.writer.specs.declared.state.Rest.the-variants.{NoBlock, Part}
 use Rattle.writer.specs.declared.state.Answer.{Answer}
 use Rattle.writer.specs.declared.state.Answer.the-variants.{Refused, Done}
 use Rattle.writer.specs.declared.state.Laid.{Laid}
-use Rattle.writer.specs.declared.state.Laid.the-variants.{Not, Finished, Unfinished}
+use Rattle.writer.specs.declared.state.Laid.the-variants.{Refused as NotLaid, Finished, Unfinished}
 use Rattle.writer.specs.State.{isPart, laidOf}
 use Rattle.writer.specs.Answers.{Left, Added}
 use Rattle.writer.specs.Opening.{opening}
@@ -24,13 +24,13 @@ use Rattle.demands.specs.Sending.{Call, opens, adds, closes, Complete, S
 use Rattle.demands.specs.Lent.{Unchanged, finishedBy, openedWith, closedWith, lentBy, lentFresh}
 
 -- ---- the values as laid are those lent: of a new block, and of one lent again unchanged
-pub as-lent : (d : Desk) (vs : List ℕ) → (d .writer .rest ≡ Whole) ⊎ (d .values ≡ vs) → valuesNow d vs ≡ vs
+pub as-lent : (d : Desk) (vs : List ℕ) → (d .writer .rest ≡ NoBlock) ⊎ (d .values ≡ vs) → valuesNow d vs ≡ vs
 as-lent d vs =
     ⊎-elim (λ e. ap (λ (r : Rest). asLaid (laidOf r) (d .values) vs) e)
     (λ e. ap (λ (l : List ℕ). asLaid (laidOf (d .writer .rest)) l vs) e ∙ take-append-drop (laidOf (d .writer .rest) - 6) vs)
 
-whole-or : (r : Rest) → (r ≡ Whole) ⊎ (isPart r ≡ true)
-whole-or Whole = inl refl
+whole-or : (r : Rest) → (r ≡ NoBlock) ⊎ (isPart r ≡ true)
+whole-or NoBlock = inl refl
 whole-or (Part k n j) = inr refl
 
 -- ---- each call: the blocks finished on the line opened last
@@ -40,7 +40,7 @@ opened-blocks Done x d f v n t = refl
 
 added-blocks : (a : Laid) (x : Added) (d : Desk) (kind : ℕ) (vs : List ℕ) → (a ≡ Finished → valuesNow d vs ≡ vs)
     → d .now .blocks ++ finishedBy a d kind vs ≡ addedBy a x d kind vs .now .blocks
-added-blocks (Not k) x d kind vs h = append-nil (d .now .blocks)
+added-blocks (NotLaid k) x d kind vs h = append-nil (d .now .blocks)
 added-blocks Finished x d kind vs h =
     ap (λ (l : List ℕ). d .now .blocks ++ (record { block = record { kind = kind; values = l }; pieces = d .pieces ++ (pieceNow d kind vs ∷ []) } ∷ [])) (sym (h refl))
 added-blocks Unfinished x d kind vs h = append-nil (d .now .blocks)

@@ -13,23 +13,21 @@ use lib.Seq.{sets, sets-eq, take-length, take-append-seam, take-append-le}
 use borrow.Author.Tests.{ltb-true, le-ltb, lt-leb, eq-eqb}
 use Rattle.lists.specs.Tests.{pick}
 use Rattle.lists.specs.Lists.{each}
-use Rattle.lists.proofs.Tests.{or-right, false-or, both-true, pick-true, pick-false}
+use Rattle.lists.proofs.Tests.{or-right, false-or, both-true, pick-true, pick-false, and-none}
 use Rattle.lists.proofs.Lists.{each-append, each-map}
 use Rattle.words.specs.Forms.{isData, isByte, dataWord, byteWord}
 use Rattle.words.specs.Modes.{values, wordOf, valueOf}
 use Rattle.words.specs.Class.{classOf, isCode, separator, endCode}
-use Rattle.words.specs.declared.class.Class.{Class}
 use Rattle.words.specs.declared.class.Class.the-variants.{Byte, Other, Separator, Ending, Illegal}
 use Rattle.words.proofs.FormLaws.{byte-low, byte-in, data-in, byte-data, byte-of-low, value-back}
 use Rattle.words.proofs.ClassLaws.{class-byte, code-not-data, code-class}
 use Rattle.machine.specs.declared.phase.Phase.{Phase}
 use Rattle.machine.specs.declared.phase.Phase.the-variants.{Idle, Kind, First, Second, Third, Fourth, Data}
-use Rattle.machine.specs.declared.step.Met.the-variants.{Nothing, Whole}
+use Rattle.machine.specs.declared.step.Met.the-variants.{Whole}
 use Rattle.machine.specs.declared.step.Step.{Step}
-use Rattle.machine.specs.Machine.{on, dropped, idleStep, counted, endStep, valueStep, dataStep, stepBy, stepOf}
+use Rattle.machine.specs.Machine.{on, dropped, idleStep, counted, endStep, valueStep, stepBy, stepOf}
 use Rattle.machine.specs.Walk.{collectedOf, stored}
-use Rattle.machine.proofs.RunLaws.{value-kept}
-use Rattle.machine.proofs.Kept.{and-none}
+use Rattle.machine.proofs.RunLaws.{collecting, data-class, value-kept}
 use Rattle.writer.specs.Block.{countWords, blockWords}
 use Rattle.writer.specs.State.{most}
 use Rattle.writer.specs.Adding.{valued}
@@ -106,9 +104,6 @@ unfolding stepOut
 quiet-out mode p next room w e = ap (λ (s : Step). metHeard (s .met) (stepTo mode (now p room) w .room)) e
 
 -- a data word
-abbrev collecting : ℕ → ℕ → ℕ → Step
-collecting k n m = record { phase = Data k n (m + 1); met = Nothing; keeps = true }
-
 value-to : (mode k n m : ℕ) (room : List ℕ) (w : ℕ) → stepOf (length room) (Data k n m) w ≡ collecting k n m
     → stepTo mode (now (Data k n m) room) w ≡ now (Data k n (m + 1)) (set room m (valueOf mode w))
 unfolding stepTo stored pick
@@ -213,13 +208,6 @@ counted-fits room k n h = pick-false (dropped 3) (on (Data k n 0)) (le-ltb room 
 last-count-step : (room k n : ℕ) → n ≤ most → n ≤ room
     → stepOf room (Fourth k (n % 256) (n / 256 % 256) (n / 65536 % 256)) (byteWord (n / 16777216 % 256)) ≡ on (Data k n 0)
 last-count-step room k n m h = byte-step room _ _ (omega arith) ∙ ap (counted room k) (count-value n m) ∙ counted-fits room k n h
-
-data-class : (room k n m : ℕ) (c : Class) → isCode c ≡ false → dataStep room k n m c ≡ valueStep room k n m
-data-class room k n m Byte e = refl
-data-class room k n m Other e = refl
-data-class room k n m Separator e = absurd (subst T e tt)
-data-class room k n m Ending e = absurd (subst T e tt)
-data-class room k n m Illegal e = refl
 
 value-fits : (room k n m : ℕ) → m < n → m < room → valueStep room k n m ≡ collecting k n m
 unfolding valueStep

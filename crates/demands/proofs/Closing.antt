@@ -20,7 +20,7 @@ use Rattle.line.specs.Check.{fitsLength}
 use Rattle.course.specs.declared.Place.the-variants.{At}
 use Rattle.course.specs.Course.{isAt, placeOf}
 use Rattle.writer.specs.declared.state.Rest.{Rest}
-use Rattle.writer.specs.declared.state.Rest.the-variants.{Whole, Part}
+use Rattle.writer.specs.declared.state.Rest.the-variants.{NoBlock, Part}
 use Rattle.writer.specs.declared.state.Writer.{Writer}
 use Rattle.writer.specs.State.{most, isPart, laidOf, misshapen, impossible, endIn}
 use Rattle.writer.specs.Answers.{Left, Added}
@@ -46,7 +46,7 @@ zeros-fit mode n = each-filler (λ (v : ℕ). ltb v (values mode)) n 0 (lt-ltb 0
 
 -- what is left behind k words: no block, or no word
 left-none : (b : Bool) (end p k left kind n j : ℕ) → eqb k left ≡ b → p < end → k ≡ min (end - p) left
-    → (isPart (pick b Whole (Part kind n j)) && not (isFull end (At (p + k)))) ≡ false
+    → (isPart (pick b NoBlock (Part kind n j)) && not (isFull end (At (p + k)))) ≡ false
 unfolding pick
 left-none true end p k left kind n j e h m = refl
 left-none false end p k left kind n j e h m = ap not (le-leb end (p + k) (omega (arith, h, m, eqb-false k left e)))
@@ -138,5 +138,5 @@ module _ (w : Writer) (line : List ℕ) (fit : fitsLength (w .system) (w .mode) 
       room-or kind n j r small false e = after-one kind n j r small e
 
       by : (r : Rest) → w .rest ≡ r → TypeHeld r → Closable w line
-      by Whole r small = at-once (ap (λ (y : Rest). isPart y && not (isFull (endIn w) (w .place))) r)
+      by NoBlock r small = at-once (ap (λ (y : Rest). isPart y && not (isFull (endIn w) (w .place))) r)
       by (Part kind n j) r small = room-or kind n j r small (isFull (endIn w) (w .place)) refl

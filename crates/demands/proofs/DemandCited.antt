@@ -29,7 +29,7 @@ use Rattle.machine.specs.declared.phase.Phase.the-variants.{Idle}
 use Rattle.machine.specs.Phases.{isBusy}
 use Rattle.writer.specs.declared.state.Writer.{Writer}
 use Rattle.writer.specs.declared.state.Rest.{Rest}
-use Rattle.writer.specs.declared.state.Rest.the-variants.{Whole, Part}
+use Rattle.writer.specs.declared.state.Rest.the-variants.{NoBlock, Part}
 use Rattle.writer.specs.declared.state.Answer.the-variants.{Done}
 use Rattle.writer.specs.State.{laidOf, endIn}
 use Rattle.writer.specs.Answers.{Left}
@@ -274,7 +274,7 @@ pub needed-525 : ((cs : List Call) (fs : List Fate) → Transmission 0 8 526 cs 
 needed-525 = demand-3 .needed
 
 -- `lent`: of a new block, whatever is held; and of a block of which 20 words were laid, lent unchanged
-pub lent-new : (d : Desk) (vs : List ℕ) → d .writer .rest ≡ Whole → asLaid (laidOf (d .writer .rest)) (d .values) vs ≡ vs
+pub lent-new : (d : Desk) (vs : List ℕ) → d .writer .rest ≡ NoBlock → asLaid (laidOf (d .writer .rest)) (d .values) vs ≡ vs
 lent-new d vs e = demand-3 .lent d vs (inl e)
 
 pub lent-again : (d : Desk) (kind n : ℕ) (vs : List ℕ) → d .writer .rest ≡ Part kind n 20 → d .values ≡ vs → take 14 (d .values) ++ drop 14 vs ≡ vs

@@ -9,7 +9,7 @@ use borrow.Author.Tests.{eq-eqb}
 use Rattle.lists.proofs.Tests.{true-false, pick-true}
 use Rattle.line.specs.Fixed.{isVariable, sizeOf}
 use Rattle.writer.specs.declared.state.Rest.{Rest}
-use Rattle.writer.specs.declared.state.Rest.the-variants.{Whole, Part}
+use Rattle.writer.specs.declared.state.Rest.the-variants.{NoBlock, Part}
 use Rattle.writer.specs.declared.state.Laid.the-variants.{Finished, Unfinished}
 use Rattle.writer.specs.State.{isPart, laidOf}
 use Rattle.writer.specs.Answers.{Added}
@@ -28,11 +28,11 @@ use Rattle.demands.proofs.DeskAdds.{now-open, lent-now, all-now, words-
 
 -- ---- an unfinished block is one: its type, how many values it has, and how many words are laid
 abbrev kindOf : Rest → ℕ
-kindOf Whole = 0
+kindOf NoBlock = 0
 kindOf (Part k n j) = k
 
 abbrev valuesOf : Rest → ℕ
-valuesOf Whole = 0
+valuesOf NoBlock = 0
 valuesOf (Part k n j) = n
 
 -- ---- what is owed, from any state and whatever words the line has
@@ -47,7 +47,7 @@ module _ (mode : ℕ) (d : Desk) (kind : ℕ) (vs : List ℕ) (ow : Owes mode d)
   mode-stays = ap (λ (y : Added). y .state .mode) leaves ∙ ow .of-mode
 
   -- finished: no block is left
-  pub rest-whole : adding (d .writer) (d .now .words) kind vs .answer ≡ Finished → adding (d .writer) (d .now .words) kind vs .state .rest ≡ Whole
+  pub rest-whole : adding (d .writer) (d .now .words) kind vs .answer ≡ Finished → adding (d .writer) (d .now .words) kind vs .state .rest ≡ NoBlock
   rest-whole e = ap (λ (y : Added). y .state .rest) leaves ∙ pick-true _ _ (eq-eqb _ _ (all-now mode d kind vs ow clear e))
 
   pub finished-owes : adding (d .writer) (d .now .words) kind vs .answer ≡ Finished

@@ -17,7 +17,7 @@ use Rattle.line.specs.Fixed.{isVariable, sizeOf}
 use Rattle.course.specs.declared.Place.{Place}
 use Rattle.course.specs.Course.{isAt}
 use Rattle.writer.specs.declared.state.Rest.{Rest}
-use Rattle.writer.specs.declared.state.Rest.the-variants.{Whole, Part}
+use Rattle.writer.specs.declared.state.Rest.the-variants.{NoBlock, Part}
 use Rattle.writer.specs.declared.state.Laid.the-variants.{Finished, Unfinished}
 use Rattle.writer.specs.State.{most, laidOf}
 use Rattle.writer.specs.Block.{blockWords, fixedWords, wordsIn}
@@ -48,7 +48,7 @@ lent-fits mode i us vs eu ev =
 
 lent-by : (mode : ℕ) (d : Desk) (kind : ℕ) (vs : List ℕ) (r : Rest) → Owes mode d → valued mode vs ≡ true → d .writer .rest ≡ r
     → isOther r kind (length vs) ≡ false → Lent mode kind (laidOf r) (joinedPieces (d .pieces)) (d .values) vs
-lent-by mode d kind vs Whole ow fit e same = record { long = refl; fits = fit; before = ap joinedPieces (ow .none-owing e); behind = refl }
+lent-by mode d kind vs NoBlock ow fit e same = record { long = refl; fits = fit; before = ap joinedPieces (ow .none-owing e); behind = refl }
 lent-by mode d kind vs (Part k n j) ow fit e same =
     let o = ow .owing k n j e in
     let b = both-true (eqb k kind) (eqb n (length vs)) (not-false _ same) in
@@ -138,7 +138,7 @@ module _ (mode : ℕ) (d : Desk) (kind : ℕ) (vs : List ℕ) (ow : Owes mode d)
 
   -- ---- a fixed line
   module _ (v : isVariable (d .writer .settings .block) ≡ false) where
-    none-laid : d .writer .rest ≡ Whole
+    none-laid : d .writer .rest ≡ NoBlock
     none-laid = fixed-whole (d .writer) (d .now .words) kind vs clear v
 
     pub none-before : d .pieces ≡ []

@@ -14,12 +14,12 @@ use Rattle.line.specs.Fixed.{isVariable}
 use Rattle.course.specs.declared.Place.the-variants.{Shut, At}
 use Rattle.course.specs.Course.{isAt}
 use Rattle.writer.specs.declared.state.Rest.{Rest}
-use Rattle.writer.specs.declared.state.Rest.the-variants.{Whole, Part}
+use Rattle.writer.specs.declared.state.Rest.the-variants.{NoBlock, Part}
 use Rattle.writer.specs.declared.state.Writer.{Writer}
 use Rattle.writer.specs.declared.state.Answer.{Answer}
 use Rattle.writer.specs.declared.state.Answer.the-variants.{Refused, Done}
 use Rattle.writer.specs.declared.state.Laid.{Laid}
-use Rattle.writer.specs.declared.state.Laid.the-variants.{Not, Finished, Unfinished}
+use Rattle.writer.specs.declared.state.Laid.the-variants.{Refused as NotLaid, Finished, Unfinished}
 use Rattle.writer.specs.State.{isPart}
 use Rattle.writer.specs.Answers.{laidNumbers, Added}
 use Rattle.writer.specs.Opening.{opening}
@@ -68,7 +68,7 @@ laidDesk d kind vs bs us ps =
     let x = adding (d .writer) (d .now .words) kind vs in
     record { writer = x .state; now = with (d .now) (d .now .pieces ++ (pieceNow d kind vs .words ∷ [])) bs (x .line); closed = d .closed; values = us; pieces = ps }
 
-laid-not : (k : ℕ) (b : Bool) → pick b Finished Unfinished ≡ Not k → ⊥
+laid-not : (k : ℕ) (b : Bool) → pick b Finished Unfinished ≡ NotLaid k → ⊥
 unfolding pick
 laid-not k true h = omega (arith, ap (λ (a : Laid). length (laidNumbers a)) h)
 laid-not k false h = omega (arith, ap (λ (a : Laid). length (laidNumbers a)) h)
@@ -88,10 +88,10 @@ module _ (d : Desk) (kind : ℕ) (vs : List ℕ) where
   after-unfinished e = ap (λ (a : Laid). addedBy a x d kind vs) e
 
   -- a refused addition has a fault
-  pub refused-fault : (k : ℕ) → adding (d .writer) (d .now .words) kind vs .answer ≡ Not k → addFault (d .writer) (length (d .now .words)) kind vs ≡ 0 → ⊥
+  pub refused-fault : (k : ℕ) → adding (d .writer) (d .now .words) kind vs .answer ≡ NotLaid k → addFault (d .writer) (length (d .now .words)) kind vs ≡ 0 → ⊥
   refused-fault k e ok = laid-not k _ (sym (ap (λ (y : Added). y .answer) (add-leaves (d .writer) (d .now .words) kind vs ok)) ∙ e)
 
-  pub add-refused-same : (k : ℕ) → adding (d .writer) (d .now .words) kind vs .answer ≡ Not k → after d (adds kind vs) ≡ d
+  pub add-refused-same : (k : ℕ) → adding (d .writer) (d .now .words) kind vs .answer ≡ NotLaid k → after d (adds kind vs) ≡ d
   unfolding after
   add-refused-same k e =
       let s = add-stays (d .writer) (d .now .words) kind vs (refused-fault k e) in
@@ -123,14 +123,14 @@ pub none-left : (system mode : ℕ) (d : Desk) → DeskOk system mode d → isPa
 none-left system mode d ok e = by (d .writer .rest) refl
   where
     by : (r : Rest) → d .writer .rest ≡ r → d .pieces ≡ []
-    by Whole h = ok .owes .none-owing h
+    by NoBlock h = ok .owes .none-owing h
     by (Part k n j) h = absurd (true-false (sym (ap isPart h) ∙ e))
 
 pub fixed-none : (system mode : ℕ) (d : Desk) → DeskOk system mode d → isVariable (d .writer .settings .block) ≡ false → d .pieces ≡ []
 fixed-none system mode d ok v = by (d .writer .rest) refl
   where
     by : (r : Rest) → d .writer .rest ≡ r → d .pieces ≡ []
-    by Whole h = ok .owes .none-owing h
+    by NoBlock h = ok .owes .none-owing h
     by (Part k n j) h = absurd (true-false (sym (ok .owes .owing k n j h .variable) ∙ v))
 
 -- what is owed stays where the mode and the unfinished block do, and the block type with it; whatever becomes of the line

@@ -12,7 +12,7 @@ use Rattle.writer.specs.declared.state.Writer.{Writer}
 use Rattle.writer.specs.declared.state.Answer.{Answer}
 use Rattle.writer.specs.declared.state.Answer.the-variants.{Refused, Done}
 use Rattle.writer.specs.declared.state.Laid.{Laid}
-use Rattle.writer.specs.declared.state.Laid.the-variants.{Not, Finished, Unfinished}
+use Rattle.writer.specs.declared.state.Laid.the-variants.{Refused as NotLaid, Finished, Unfinished}
 use Rattle.writer.specs.State.{impossible}
 use Rattle.writer.specs.Opening.{opening}
 use Rattle.writer.specs.Adding.{addFault, adding}
@@ -68,7 +68,7 @@ does told d (opens f v n t held lent) = by (opening (d .writer) f v n t lent .an
 does told d (adds kind vs) = by (adding (d .writer) (d .now .words) kind vs .answer) refl
   where
     by : (a : Laid) → adding (d .writer) (d .now .words) kind vs .answer ≡ a → Does told d (adds kind vs) (after d (adds kind vs)) []
-    by (Not k) e = subst (λ (x : Desk). Does told d (adds kind vs) x []) (sym (add-refused-same d kind vs k e)) (refused told d (adds kind vs))
+    by (NotLaid k) e = subst (λ (x : Desk). Does told d (adds kind vs) x []) (sym (add-refused-same d kind vs k e)) (refused told d (adds kind vs))
     by Finished e = subst (λ (x : Desk). Does told d (adds kind vs) x []) (sym (after-finished d kind vs e)) (is-finished kind vs (finished-clear (d .writer) (d .now .words) kind vs e) e)
     by Unfinished e = subst (λ (x : Desk). Does told d (adds kind vs) x []) (sym (after-unfinished d kind vs e)) (is-unfinished kind vs (unfinished-clear (d .writer) (d .now .words) kind vs e) e)
 does told d closes = by (closing (d .writer) (d .now .words) .answer) refl

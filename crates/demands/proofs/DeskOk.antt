@@ -13,7 +13,7 @@ use Rattle.line.proofs.SystemLaws.{Sound}
 use Rattle.words.specs.Modes.{isMode}
 use Rattle.course.specs.declared.Last.the-variants.{Number}
 use Rattle.course.specs.Course.{isAt}
-use Rattle.writer.specs.declared.state.Rest.the-variants.{Whole, Part}
+use Rattle.writer.specs.declared.state.Rest.the-variants.{NoBlock, Part}
 use Rattle.writer.specs.State.{impossible}
 use Rattle.writer.specs.Adding.{valued}
 use Rattle.writer.specs.Block.{blockWords}
@@ -56,7 +56,7 @@ pub record Owing (mode : ℕ) (d : Desk) (kind n j : ℕ) : Type 0 where
 -- what is owed: nothing, or an unfinished block. Nothing is asked of a line.
 pub record Owes (mode : ℕ) (d : Desk) : Type 0 where
   pub of-mode : d .writer .mode ≡ mode
-  pub none-owing : d .writer .rest ≡ Whole → d .pieces ≡ []
+  pub none-owing : d .writer .rest ≡ NoBlock → d .pieces ≡ []
   pub owing : (kind n j : ℕ) → d .writer .rest ≡ Part kind n j → Owing mode d kind n j
 
 pub record DeskOk (system mode : ℕ) (d : Desk) : Type 0 where

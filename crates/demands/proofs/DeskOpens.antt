@@ -1,23 +1,21 @@
 -- A line opened: what an accepted opening says, and that the desk holds what it held.
 -- Assumes nothing.
-use mathlib.Core.Path.{_≡_, refl, sym, ap, _∙_, subst}
-use mathlib.Core.Bool.{Bool, true, false, _&&_, _||_, not}
+use mathlib.Core.Path.{_≡_, refl, ap, _∙_, subst}
+use mathlib.Core.Bool.{Bool, false}
 use mathlib.Core.List.{List}
 use Prim.Native.Nat.{ℕ}
 use lib.ListN.{length}
-use borrow.Author.Tests.{not-false}
-use Rattle.lists.proofs.Tests.{true-false, or-false}
+use Rattle.lists.proofs.Tests.{true-false}
 use Rattle.line.specs.declared.settings.Settings.{Settings}
-use Rattle.line.specs.Systems.{systemOf}
-use Rattle.line.specs.Settings.{Held, sameSettings}
+use Rattle.line.specs.Settings.{Held}
 use Rattle.line.proofs.SettingsLaws.{same-block}
 use Rattle.course.specs.declared.Place.{Place}
 use Rattle.course.specs.declared.Place.the-variants.{Shut, At}
 use Rattle.course.specs.Course.{isAt}
 use Rattle.writer.specs.declared.state.Answer.the-variants.{Done}
-use Rattle.writer.specs.State.{isPart, openState}
+use Rattle.writer.specs.State.{openState}
 use Rattle.writer.specs.Answers.{Left, left}
-use Rattle.writer.specs.Opening.{isNext, openBlocked, openWords, opening}
+use Rattle.writer.specs.Opening.{openWords, opening}
 use Rattle.writer.proofs.Keeps.{open-clear, open-leaves}
 use Rattle.writer.proofs.Refusals.{CanOpen, can-open}
 use Rattle.writer.proofs.Stays.{open-possible}
@@ -32,11 +30,6 @@ is-shut : (p : Place) → isAt p ≡ false → p ≡ Shut
 is-shut Shut e = refl
 is-shut (At q) e = absurd (true-false e)
 
--- an unfinished block goes on with the same settings and the next number
-goes-by : (part same next : Bool) → (part && (not same || not next)) ≡ false → part ≡ true → (same ≡ true) × (next ≡ true)
-goes-by true same next e p = let h = or-false (not same) (not next) e in (not-false same (h .0), not-false next (h .1))
-goes-by false same next e p = absurd (true-false (sym p))
-
 module _ (d : Desk) (f v : Bool) (n : ℕ) (t : Settings) (lent : List ℕ) (done : opening (d .writer) f v n t lent .answer ≡ Done) where
   finds : CanOpen (d .writer) n t (length lent)
   finds = can-open (d .writer) n t (length lent) (open-clear (d .writer) f v n t lent done)
@@ -45,17 +38,14 @@ module _ (d : Desk) (f v : Bool) (n : ℕ) (t : Settings) (lent : List ℕ) (don
   leaves = open-leaves (d .writer) f v n t lent (open-clear (d .writer) f v n t lent done)
 
   own-opens : Opens (d .writer .system) d f v n t lent
-  unfolding openBlocked
   own-opens =
-      let w = d .writer in
-      let b = or-false (isAt (w .place)) _ (finds .free) in
       record {
-        was-shut = is-shut (w .place) (b .0);
+        was-shut = is-shut (d .writer .place) (finds .shut);
         place = ap (λ (x : Left). x .state .place) leaves;
         rest = ap (λ (x : Left). x .state .rest) leaves;
         last = ap (λ (x : Left). x .state .last) leaves;
         settings = ap (λ (x : Left). x .state .settings) leaves;
-        goes-on = goes-by (isPart (w .rest)) (sameSettings t (w .settings)) (isNext (systemOf (w .system) .lines) (w .last) n) (b .1);
+        goes-on = finds .goes;
       }
 
   own-opened : Held t → DeskOk (d .writer .system) (d .writer .mode) d

@@ -13,7 +13,7 @@ use Rattle.lists.proofs.Tests.{true-false, or-left, or-false}
 use Rattle.course.specs.declared.Place.the-variants.{Shut}
 use Rattle.course.specs.Course.{isAt}
 use Rattle.writer.specs.declared.state.Rest.{Rest}
-use Rattle.writer.specs.declared.state.Rest.the-variants.{Whole, Part}
+use Rattle.writer.specs.declared.state.Rest.the-variants.{NoBlock, Part}
 use Rattle.writer.specs.declared.state.Writer.{Writer}
 use Rattle.writer.specs.State.{most, isPart, misshapen, impossible, fresh}
 use Rattle.writer.specs.Block.{blockWords}
@@ -29,12 +29,12 @@ use Rattle.demands.proofs.DeskCloses.{varied-by}
 
 -- the values of an unfinished block: as many as the state says, and each fits the mode
 abbrev pub ValuesOf : ℕ → Rest → List ℕ → Type 0
-ValuesOf mode Whole us = Unit {0}
+ValuesOf mode NoBlock us = Unit {0}
 ValuesOf mode (Part kind n j) us = (length us ≡ n) × (valued mode us ≡ true)
 
 -- what was laid of it, as one piece
 abbrev pub laidBefore : ℕ → Rest → List ℕ → List Piece
-laidBefore mode Whole us = []
+laidBefore mode NoBlock us = []
 laidBefore mode (Part kind n j) us = record { line = 0; words = take j (blockWords mode kind us) } ∷ []
 
 abbrev pub standing : Writer → List ℕ → Desk
@@ -75,7 +75,7 @@ module _ (w : Writer) (us : List ℕ) (possible : impossible w ≡ false) (value
   standing-some = by (w .rest) refl
     where
       by : (r : Rest) → w .rest ≡ r → All HasWord (laidBefore (w .mode) r us)
-      by Whole e = tt
+      by NoBlock e = tt
       by (Part kind n j) e =
           let o = owing-part kind n j e in
           let words = blockWords (w .mode) kind us in

@@ -26,7 +26,7 @@ use Rattle.course.specs.declared.Place.{Place}
 use Rattle.course.specs.declared.Place.the-variants.{Shut, At}
 use Rattle.course.specs.Course.{nextNumber, isAt, blocksEnd}
 use Rattle.writer.specs.declared.state.Rest.{Rest}
-use Rattle.writer.specs.declared.state.Rest.the-variants.{Whole, Part}
+use Rattle.writer.specs.declared.state.Rest.the-variants.{NoBlock, Part}
 use Rattle.writer.specs.declared.state.Writer.{Writer}
 use Rattle.writer.specs.declared.state.Answer.{Answer}
 use Rattle.writer.specs.declared.state.Answer.the-variants.{Done}
@@ -219,12 +219,12 @@ not-full : isFull (blocksEnd 1440 0xc1 0) (At 0) ≡ false
 not-full = ap (λ (m : ℕ). isFull m (At 0)) area-is
 
 -- ---- the first line of a block: it is filled
-module _ (n : ℕ) (ws : List ℕ) (i : ℕ) (vs : List ℕ) (v : Values vs) (ok : DeskOk 0 8 (desk (Number n) one-set (At 0) Whole (sent n [] [] ws) i [] [])) where
+module _ (n : ℕ) (ws : List ℕ) (i : ℕ) (vs : List ℕ) (v : Values vs) (ok : DeskOk 0 8 (desk (Number n) one-set (At 0) NoBlock (sent n [] [] ws) i [] [])) where
   abbrev w : Writer
-  w = writer (Number n) one-set (At 0) Whole
+  w = writer (Number n) one-set (At 0) NoBlock
 
   abbrev fresh-line : Desk
-  fresh-line = desk (Number n) one-set (At 0) Whole (sent n [] [] ws) i [] []
+  fresh-line = desk (Number n) one-set (At 0) NoBlock (sent n [] [] ws) i [] []
 
   head-free : addFault w (length ws) 1 vs ≡ 0
   head-free = add-free w (length ws) 1 vs (fits-by (length ws) (open-long fresh-line ok refl)) (ok .possible) (v .fit) (shape-is vs v) not-full refl
@@ -247,7 +247,7 @@ module _ (n : ℕ) (ws : List ℕ) (i : ℕ) (vs : List ℕ) (v : Values vs) (ok
   head-piece = piece-laid w ws 1 vs head-free ∙ ap₂ take head-room (block-is vs)
 
   head-line : List ℕ
-  head-line = adding (writer (Number n) one-set (At 0) Whole) ws 1 vs .line
+  head-line = adding (writer (Number n) one-set (At 0) NoBlock) ws 1 vs .line
 
   head-is : after fresh-line (adds 1 vs)
       ≡ desk (Number n) one-set (At 1440) (Part 1 1500 1440) (sent n (head-of vs ∷ []) [] head-line) i vs (piece i (head-of vs) ∷ [])
@@ -280,7 +280,7 @@ module _ (n : ℕ) (ws : List ℕ) (i : ℕ) (us vs : List ℕ) (ps : List Piece
   tail-all : eqb (room w′ (todo w′ 1 vs)) (length (todo w′ 1 vs)) ≡ true
   tail-all = ap₂ eqb tail-room tail-long
 
-  tail-leaves : adding w′ ws 1 vs .state ≡ writer (Number n) one-set (At 67) Whole
+  tail-leaves : adding w′ ws 1 vs .state ≡ writer (Number n) one-set (At 67) NoBlock
   tail-leaves =
       ap (λ (x : Added). x .state) (add-leaves w′ ws 1 vs tail-free)
       ∙ ap₂ (λ (k : ℕ) (r : Rest). moved w′ (At (0 + k)) r) tail-room (pick-true _ _ tail-all)
@@ -294,7 +294,7 @@ module _ (n : ℕ) (ws : List ℕ) (i : ℕ) (us vs : List ℕ) (ps : List Piece
   tail-line : List ℕ
   tail-line = adding (writer (Number n) one-set (At 0) (Part 1 1500 1440)) ws 1 vs .line
 
-  tail-is : after owing-line (adds 1 vs) ≡ desk (Number n) one-set (At 67) Whole (sent n (tail-of vs ∷ []) (block-of i ps us vs ∷ []) tail-line) i [] []
+  tail-is : after owing-line (adds 1 vs) ≡ desk (Number n) one-set (At 67) NoBlock (sent n (tail-of vs ∷ []) (block-of i ps us vs ∷ []) tail-line) i [] []
   unfolding tail-line
   tail-is =
       after-finished owing-line 1 vs tail-answer
@@ -318,7 +318,7 @@ unfolding sentBy sends
 add-sends d d′ vs cs e = ap (λ (x : Desk). sentBy x cs) e
 
 -- nothing owing: any number may come
-any-number : (l : Last) (u : Settings) (n : ℕ) → openBlocked (writer l u Shut Whole) n one-set ≡ false
+any-number : (l : Last) (u : Settings) (n : ℕ) → openBlocked (writer l u Shut NoBlock) n one-set ≡ false
 unfolding openBlocked
 any-number l u n = refl
 
@@ -351,26 +351,26 @@ abbrev pub second-of : ℕ → List ℕ → List ℕ → List ℕ → Sent
 second-of i us vs ws = sent 2 (tail-of vs ∷ []) (block-of (suc i) (piece i (head-of us) ∷ []) us vs ∷ []) ws
 
 module _ (lent : List ℕ) (lent-long : length lent ≡ 1716) where
-  pub empty-sent : (l : Last) (u : Settings) (s : Sent) (i n : ℕ) → DeskOk 0 8 (desk l u Shut Whole s i [] []) → (leb 1 n && leb n 525) ≡ true
-      → Line (desk l u Shut Whole s i [] []) (empty-line lent n) (sent n [] []) (λ x. desk (Number n) one-set Shut Whole x (suc i) [] [])
+  pub empty-sent : (l : Last) (u : Settings) (s : Sent) (i n : ℕ) → DeskOk 0 8 (desk l u Shut NoBlock s i [] []) → (leb 1 n && leb n 525) ≡ true
+      → Line (desk l u Shut NoBlock s i [] []) (empty-line lent n) (sent n [] []) (λ x. desk (Number n) one-set Shut NoBlock x (suc i) [] [])
   empty-sent l u s i n ok range =
       let free = any-number l u n in
       let ws = openWords 0 false false n one-set in
-      let ok₁ = open-ok lent lent-long l u Whole s i [] [] n ok range free in
+      let ok₁ = open-ok lent lent-long l u NoBlock s i [] [] n ok range free in
       record {
-        words = shut n 0 Whole [] [] ws i [] [] ok₁ refl;
-        is = λ cs. open-sends lent lent-long l u Whole s i [] [] n ok range free (closes ∷ cs) ∙ close-sends n 0 Whole [] [] ws i [] [] ok₁ refl cs;
-        ok = close-ok n 0 Whole [] [] ws i [] [] ok₁ refl;
+        words = shut n 0 NoBlock [] [] ws i [] [] ok₁ refl;
+        is = λ cs. open-sends lent lent-long l u NoBlock s i [] [] n ok range free (closes ∷ cs) ∙ close-sends n 0 NoBlock [] [] ws i [] [] ok₁ refl cs;
+        ok = close-ok n 0 NoBlock [] [] ws i [] [] ok₁ refl;
       }
 
-  pub head-sent : (l : Last) (u : Settings) (s : Sent) (i n : ℕ) (vs : List ℕ) → Values vs → DeskOk 0 8 (desk l u Shut Whole s i [] []) → (leb 1 n && leb n 525) ≡ true
-      → Line (desk l u Shut Whole s i [] []) (block-line lent n vs) (sent n (head-of vs ∷ []) [])
+  pub head-sent : (l : Last) (u : Settings) (s : Sent) (i n : ℕ) (vs : List ℕ) → Values vs → DeskOk 0 8 (desk l u Shut NoBlock s i [] []) → (leb 1 n && leb n 525) ≡ true
+      → Line (desk l u Shut NoBlock s i [] []) (block-line lent n vs) (sent n (head-of vs ∷ []) [])
       (λ x. desk (Number n) one-set Shut (Part 1 1500 1440) x (suc i) vs (piece i (head-of vs) ∷ []))
   head-sent l u s i n vs v ok range =
       let free = any-number l u n in
       let ws = openWords 0 false false n one-set in
-      let ok₁ = open-ok lent lent-long l u Whole s i [] [] n ok range free in
-      let d₁ = desk (Number n) one-set (At 0) Whole (sent n [] [] ws) i [] [] in
+      let ok₁ = open-ok lent lent-long l u NoBlock s i [] [] n ok range free in
+      let d₁ = desk (Number n) one-set (At 0) NoBlock (sent n [] [] ws) i [] [] in
       let ws₂ = head-line n ws i vs v ok₁ in
       let qs = head-of vs ∷ [] in
       let ps = piece i (head-of vs) ∷ [] in
@@ -379,14 +379,14 @@ module _ (lent : List ℕ) (lent-long : length lent ≡ 1716) where
       let ok₂ = subst (DeskOk 0 8) is₂ (after-ok 0 8 d₁ (adds 1 vs) ok₁) in
       record {
         words = shut n 1440 (Part 1 1500 1440) qs [] ws₂ i vs ps ok₂ refl;
-        is = λ cs. open-sends lent lent-long l u Whole s i [] [] n ok range free (adds 1 vs ∷ closes ∷ cs) ∙ add-sends d₁ d₂ vs (closes ∷ cs) is₂
+        is = λ cs. open-sends lent lent-long l u NoBlock s i [] [] n ok range free (adds 1 vs ∷ closes ∷ cs) ∙ add-sends d₁ d₂ vs (closes ∷ cs) is₂
             ∙ close-sends n 1440 (Part 1 1500 1440) qs [] ws₂ i vs ps ok₂ refl cs;
         ok = close-ok n 1440 (Part 1 1500 1440) qs [] ws₂ i vs ps ok₂ refl;
       }
 
   pub tail-sent : (s : Sent) (i : ℕ) (us vs : List ℕ) (ps : List Piece) → Values vs → DeskOk 0 8 (desk (Number 1) one-set Shut (Part 1 1500 1440) s i us ps)
       → Line (desk (Number 1) one-set Shut (Part 1 1500 1440) s i us ps) (block-line lent 2 vs) (sent 2 (tail-of vs ∷ []) (block-of i ps us vs ∷ []))
-      (λ x. desk (Number 2) one-set Shut Whole x (suc i) [] [])
+      (λ x. desk (Number 2) one-set Shut NoBlock x (suc i) [] [])
   tail-sent s i us vs ps v ok =
       let part = Part 1 1500 1440 in
       let ws = openWords 0 false false 2 one-set in
@@ -395,29 +395,29 @@ module _ (lent : List ℕ) (lent-long : length lent ≡ 1716) where
       let ws₂ = tail-line 2 ws i us vs ps v ok₁ in
       let qs = tail-of vs ∷ [] in
       let bs = block-of i ps us vs ∷ [] in
-      let d₂ = desk (Number 2) one-set (At 67) Whole (sent 2 qs bs ws₂) i [] [] in
+      let d₂ = desk (Number 2) one-set (At 67) NoBlock (sent 2 qs bs ws₂) i [] [] in
       let is₂ = tail-is 2 ws i us vs ps v ok₁ in
       let ok₂ = subst (DeskOk 0 8) is₂ (after-ok 0 8 d₁ (adds 1 vs) ok₁) in
       record {
-        words = shut 2 67 Whole qs bs ws₂ i [] [] ok₂ refl;
+        words = shut 2 67 NoBlock qs bs ws₂ i [] [] ok₂ refl;
         is = λ cs. open-sends lent lent-long (Number 1) one-set part s i us ps 2 ok refl next-number (adds 1 vs ∷ closes ∷ cs) ∙ add-sends d₁ d₂ vs (closes ∷ cs) is₂
-            ∙ close-sends 2 67 Whole qs bs ws₂ i [] [] ok₂ refl cs;
-        ok = close-ok 2 67 Whole qs bs ws₂ i [] [] ok₂ refl;
+            ∙ close-sends 2 67 NoBlock qs bs ws₂ i [] [] ok₂ refl cs;
+        ok = close-ok 2 67 NoBlock qs bs ws₂ i [] [] ok₂ refl;
       }
 
   -- ---- lines without a block, one after another
   pub record Fillers (k x i : ℕ) (s : Sent) : Type 0 where
     pub lines : List Sent
     pub last-one : Sent
-    pub is : (cs : List Call) → sentBy (desk (Number x) one-set Shut Whole s i [] []) (fillers lent k x cs)
-        ≡ lines ++ sentBy (desk (Number (x + k)) one-set Shut Whole last-one (i + k) [] []) cs
-    pub ok : DeskOk 0 8 (desk (Number (x + k)) one-set Shut Whole last-one (i + k) [] [])
+    pub is : (cs : List Call) → sentBy (desk (Number x) one-set Shut NoBlock s i [] []) (fillers lent k x cs)
+        ≡ lines ++ sentBy (desk (Number (x + k)) one-set Shut NoBlock last-one (i + k) [] []) cs
+    pub ok : DeskOk 0 8 (desk (Number (x + k)) one-set Shut NoBlock last-one (i + k) [] [])
     pub long : length lines ≡ k
     pub blocks : (rest : List Sent) → blocksOf (lines ++ rest) ≡ blocksOf rest
     pub follows : (rest : List Sent) → Follows 525 (x + k) rest → Follows 525 x (lines ++ rest)
 
   one-more : (k x i : ℕ) (s : Sent) → x < 525
-      → (first : Line (desk (Number x) one-set Shut Whole s i [] []) (empty-line lent (suc x)) (sent (suc x) [] []) (λ y. desk (Number (suc x)) one-set Shut Whole y (suc i) [] []))
+      → (first : Line (desk (Number x) one-set Shut NoBlock s i [] []) (empty-line lent (suc x)) (sent (suc x) [] []) (λ y. desk (Number (suc x)) one-set Shut NoBlock y (suc i) [] []))
       → Fillers k (suc x) (suc i) (sent (suc x) [] [] (first .words)) → Fillers (suc k) x i s
   one-more k x i s below first more =
       let ex : suc x + k ≡ x + suc k = omega arith in
@@ -429,24 +429,24 @@ module _ (lent : List ℕ) (lent-long : length lent ≡ 1716) where
         last-one = end;
         is = λ cs. first .is (fillers lent k (suc x) cs)
             ∙ ap {B = List Sent} (λ (l : List Sent). line ∷ l)
-            (more .is cs ∙ ap₂ (λ (y j : ℕ). more .lines ++ sentBy (desk (Number y) one-set Shut Whole end j [] []) cs) ex ei);
-        ok = subst (λ (j : ℕ). DeskOk 0 8 (desk (Number (x + suc k)) one-set Shut Whole end j [] [])) ei
-            (subst (λ (y : ℕ). DeskOk 0 8 (desk (Number y) one-set Shut Whole end (suc i + k) [] [])) ex (more .ok));
+            (more .is cs ∙ ap₂ (λ (y j : ℕ). more .lines ++ sentBy (desk (Number y) one-set Shut NoBlock end j [] []) cs) ex ei);
+        ok = subst (λ (j : ℕ). DeskOk 0 8 (desk (Number (x + suc k)) one-set Shut NoBlock end j [] [])) ei
+            (subst (λ (y : ℕ). DeskOk 0 8 (desk (Number y) one-set Shut NoBlock end (suc i + k) [] [])) ex (more .ok));
         long = ap suc (more .long);
         blocks = λ rest. more .blocks rest;
         follows = λ rest h. (sym (goes-up x below), more .follows rest (subst (λ (y : ℕ). Follows 525 y rest) (sym ex) h));
       }
 
-  pub fillers-sent : (k x i : ℕ) (s : Sent) → x + k ≤ 525 → DeskOk 0 8 (desk (Number x) one-set Shut Whole s i [] []) → Fillers k x i s
+  pub fillers-sent : (k x i : ℕ) (s : Sent) → x + k ≤ 525 → DeskOk 0 8 (desk (Number x) one-set Shut NoBlock s i [] []) → Fillers k x i s
   fillers-sent zero x i s most ok =
       let ex = sym (add-zero x) in
       let ei = sym (add-zero i) in
       record {
         lines = [];
         last-one = s;
-        is = λ cs. ap₂ (λ (y j : ℕ). sentBy (desk (Number y) one-set Shut Whole s j [] []) cs) ex ei;
-        ok = subst (λ (j : ℕ). DeskOk 0 8 (desk (Number (x + 0)) one-set Shut Whole s j [] [])) ei
-            (subst (λ (y : ℕ). DeskOk 0 8 (desk (Number y) one-set Shut Whole s i [] [])) ex ok);
+        is = λ cs. ap₂ (λ (y j : ℕ). sentBy (desk (Number y) one-set Shut NoBlock s j [] []) cs) ex ei;
+        ok = subst (λ (j : ℕ). DeskOk 0 8 (desk (Number (x + 0)) one-set Shut NoBlock s j [] [])) ei
+            (subst (λ (y : ℕ). DeskOk 0 8 (desk (Number y) one-set Shut NoBlock s i [] [])) ex ok);
         long = refl;
         blocks = λ rest. refl;
         follows = λ rest h. subst (λ (y : ℕ). Follows 525 y rest) (add-zero x) h;
@@ -461,11 +461,11 @@ module _ (lent : List ℕ) (lent-long : length lent ≡ 1716) where
     pub first : List ℕ
     pub second : List ℕ
     pub is : (cs : List Call) → sentBy d (block-line lent 1 us (block-line lent 2 vs cs))
-        ≡ first-of us first ∷ (second-of i us vs second ∷ sentBy (desk (Number 2) one-set Shut Whole (second-of i us vs second) (suc (suc i)) [] []) cs)
-    pub ok : DeskOk 0 8 (desk (Number 2) one-set Shut Whole (second-of i us vs second) (suc (suc i)) [] [])
+        ≡ first-of us first ∷ (second-of i us vs second ∷ sentBy (desk (Number 2) one-set Shut NoBlock (second-of i us vs second) (suc (suc i)) [] []) cs)
+    pub ok : DeskOk 0 8 (desk (Number 2) one-set Shut NoBlock (second-of i us vs second) (suc (suc i)) [] [])
 
-  pub block-sent : (l : Last) (u : Settings) (s : Sent) (i : ℕ) (us vs : List ℕ) → Values us → Values vs → DeskOk 0 8 (desk l u Shut Whole s i [] [])
-      → Lays (desk l u Shut Whole s i [] []) i us vs
+  pub block-sent : (l : Last) (u : Settings) (s : Sent) (i : ℕ) (us vs : List ℕ) → Values us → Values vs → DeskOk 0 8 (desk l u Shut NoBlock s i [] [])
+      → Lays (desk l u Shut NoBlock s i [] []) i us vs
   block-sent l u s i us vs x y ok =
       let p = head-sent l u s i 1 us x ok refl in
       let line = first-of us (p .words) in

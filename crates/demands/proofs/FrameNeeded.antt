@@ -16,7 +16,7 @@ use Rattle.line.specs.Settings.{noSettings}
 use Rattle.course.specs.declared.Last.the-variants.{Unknown, Number}
 use Rattle.course.specs.declared.Place.the-variants.{Shut}
 use Rattle.course.specs.Course.{nextNumber}
-use Rattle.writer.specs.declared.state.Rest.the-variants.{Whole}
+use Rattle.writer.specs.declared.state.Rest.the-variants.{NoBlock}
 use Rattle.writer.specs.Adding.{valued}
 use Rattle.writer.specs.Course.{asLaid}
 use Rattle.writer.proofs.Framing.{take-filler, drop-filler}
@@ -77,11 +77,11 @@ module _ (lent : List ℕ) (lent-long : length lent ≡ 1716) (a b : List ℕ) (
     follows : (rest : List Sent) → Follows 525 525 rest → Follows 525 2 (between ++ rest)
 
   sends-by : (x : Lays lent lent-long (start 0 8) 0 a a) (m : Fillers lent lent-long 523 2 2 (second-of 0 a a (x .second)))
-      → Lays lent lent-long (desk (Number 525) one-set Shut Whole (m .last-one) 525 [] []) 525 b b → Sends
+      → Lays lent lent-long (desk (Number 525) one-set Shut NoBlock (m .last-one) 525 [] []) 525 b b → Sends
   unfolding calls
   sends-by x m y =
       let last-two = first-of b (y .first) ∷ (second-of 525 b b (y .second) ∷ []) in
-      let end : sentBy (desk (Number 525) one-set Shut Whole (m .last-one) 525 [] []) (block-line lent 1 b (block-line lent 2 b [])) ≡ last-two =
+      let end : sentBy (desk (Number 525) one-set Shut NoBlock (m .last-one) 525 [] []) (block-line lent 1 b (block-line lent 2 b [])) ≡ last-two =
       y .is [] ∙ ap {B = List Sent} (λ (l : List Sent). first-of b (y .first) ∷ (second-of 525 b b (y .second) ∷ l)) (none-sent _) in
       record {
         w₀ = x .first;

@@ -7,7 +7,7 @@ use lib.IntN.{pos, negsuc}
 use Rattle.machine.specs.declared.phase.Phase.the-variants.{Idle, Kind, First, Second, Third, Fourth, Data}
 use Rattle.machine.specs.Phases.{phaseNumbers}
 use Rattle.writer.specs.declared.state.Answer.the-variants.{Refused as NotDone, Done}
-use Rattle.writer.specs.declared.state.Laid.the-variants.{Not, Finished, Unfinished}
+use Rattle.writer.specs.declared.state.Laid.the-variants.{Refused as NotLaid, Finished, Unfinished}
 use Rattle.writer.specs.Answers.{answerNumbers, laidNumbers}
 use Rattle.reader.specs.declared.jump.Jump.the-variants.{Unknown, Known}
 use Rattle.reader.specs.declared.state.Event.the-variants.{Refused, Begun, Block, Drop, End}
@@ -25,7 +25,7 @@ pub answer-numbers : map answerNumbers (NotDone 20 ∷ Done ∷ []) ≡ (20 ∷ 
 answer-numbers = refl
 
 -- adding: refused with 17; finished; unfinished
-pub laid-numbers : map laidNumbers (Not 17 ∷ Finished ∷ Unfinished ∷ []) ≡ (17 ∷ []) ∷ (0 ∷ 1 ∷ []) ∷ (0 ∷ 0 ∷ []) ∷ []
+pub laid-numbers : map laidNumbers (NotLaid 17 ∷ Finished ∷ Unfinished ∷ []) ≡ (17 ∷ []) ∷ (0 ∷ 1 ∷ []) ∷ (0 ∷ 0 ∷ []) ∷ []
 laid-numbers = refl
 
 -- idle; type awaited; count awaited with type 5 and none, one, two and three bytes; data of type 5, 9 announced and 4 collected

@@ -10,7 +10,7 @@ use lib.ListN.{length, take, drop, length-drop, take-append-drop}
 use lib.Seq.{take-all}
 use Rattle.lists.specs.Tests.{pick}
 use Rattle.lists.proofs.Lists.{part-add}
-use Rattle.lists.proofs.Tests.{pick-true, pick-false}
+use Rattle.lists.proofs.Tests.{pick-true, pick-false, and-none}
 use Rattle.writer.specs.Block.{blockWords}
 use Rattle.machine.specs.declared.phase.Phase.{Phase}
 use Rattle.machine.specs.declared.phase.Phase.the-variants.{Idle}
@@ -24,10 +24,6 @@ use Rattle.demands.proofs.Ahead.{blocksHeard, Behind, Matches}
 use Rattle.demands.proofs.RunLaws.{run-to-append, run-out-append, run-room}
 use Rattle.demands.proofs.BlockRun.{Shaped, whole-out, whole-to, front-out, behind-out, behind-to}
 
-pub and-none : (a : Bool) → (a && false) ≡ false
-and-none true = refl
-and-none false = refl
-
 -- one more piece on a line that is kept
 pub all-one : (keeps : ℕ → Bool) (ps : List Piece) (p : Piece) → keeps (p .line) ≡ true → allOn keeps (ps ++ (p ∷ [])) ≡ allOn keeps ps
 all-one keeps [] p e = ap (λ (b : Bool). b && true) e
@@ -36,7 +32,7 @@ all-one keeps (q ∷ ps) p e = ap (λ (b : Bool). keeps (q .line) && b) (all-one
 -- and on one that is not
 pub all-lost : (keeps : ℕ → Bool) (ps : List Piece) (p : Piece) → keeps (p .line) ≡ false → allOn keeps (ps ++ (p ∷ [])) ≡ false
 all-lost keeps [] p e = ap (λ (b : Bool). b && true) e
-all-lost keeps (q ∷ ps) p e = ap (λ (b : Bool). keeps (q .line) && b) (all-lost keeps ps p e) ∙ and-none (keeps (q .line))
+all-lost keeps (q ∷ ps) p e = ap (λ (b : Bool). keeps (q .line) && b) (all-lost keeps ps p e) ∙ and-none (keeps (q .line)) false refl
 
 module _ (mode cap kind : ℕ) (us : List ℕ) (s : Shaped mode kind us) (fit : length us ≤ cap) (keeps : ℕ → Bool) (ps : List Piece) (q : Now) (m : Matches mode cap keeps ps q) (j k : ℕ)
     (before : joinedPieces ps ≡ take j (blockWords mode kind us)) (piece : List ℕ) (is : piece ≡ take k (drop j (blockWords mode kind us)))

@@ -7,7 +7,7 @@ use mathlib.Core.Path.{_≡_, refl, sym, ap, _∙_}
 use native.Mathlib.Omega.{arith}
 use lib.ListN.{length}
 use Rattle.lists.specs.Tests.{pick}
-use Rattle.lists.proofs.Tests.{true-false, and-true, pick-true, pick-false}
+use Rattle.lists.proofs.Tests.{true-false, and-true, pick-true, pick-false, and-none}
 use Rattle.line.specs.declared.settings.Settings.{Settings}
 use Rattle.line.specs.Systems.{systemOf}
 use Rattle.line.specs.Settings.{sameSettings}
@@ -33,7 +33,6 @@ use Rattle.demands.proofs.DeskOk.{DeskOk}
 use Rattle.demands.proofs.Outcomes.{Opens}
 use Rattle.demands.proofs.DeskCalls.{shut-at, none-left, fixed-none}
 use Rattle.demands.proofs.Ahead.{Matches, Between, Numbered, Noted, Ahead}
-use Rattle.demands.proofs.PieceRun.{and-none}
 
 -- ---- the jump is 0 exactly where the number is next
 zero-next : (system : ℕ) (l : Last) (n : ℕ) → Numbered (systemOf system .lines) l → 1 ≤ n → n ≤ systemOf system .lines
@@ -126,7 +125,7 @@ module _ (system mode cap : ℕ) (keeps : ℕ → Bool) (told gone : Bool) (d : 
       by : (b c : Bool) → isPart (d .writer .rest) ≡ b → allOn keeps (d .pieces) ≡ c → (isBusy (ear .phase) && not (goesOnIn system mode ear n t)) ≡ false
       by false c e w = busy-idle (ear .phase) _ (idle-behind mode cap keeps (d .pieces) (now (ear .phase) (ear .room)) (none-left system mode d ok e) (here .here g))
       by true false e w = busy-idle (ear .phase) _ (here .here g .lost w)
-      by true true e w = ap (λ (x : Bool). isBusy (ear .phase) && not x) (goes-part h g e w) ∙ and-none (isBusy (ear .phase))
+      by true true e w = ap (λ (x : Bool). isBusy (ear .phase) && not x) (goes-part h g e w) ∙ and-none (isBusy (ear .phase)) false refl
 
   abbrev next : Desk
   next = openedBy Done (opening (d .writer) f v n t lent) d f v n t

@@ -21,11 +21,11 @@ use Rattle.course.specs.declared.Place.the-variants.{At}
 use Rattle.course.specs.Course.{isAt, placeOf, nextNumber, blocksEnd, misplaced}
 use Rattle.course.proofs.CourseLaws.{placed-end}
 use Rattle.writer.specs.declared.state.Rest.{Rest}
-use Rattle.writer.specs.declared.state.Rest.the-variants.{Whole}
+use Rattle.writer.specs.declared.state.Rest.the-variants.{NoBlock}
 use Rattle.writer.specs.declared.state.Answer.{Answer}
 use Rattle.writer.specs.declared.state.Answer.the-variants.{Done}
 use Rattle.writer.specs.declared.state.Laid.{Laid}
-use Rattle.writer.specs.declared.state.Laid.the-variants.{Not, Finished, Unfinished}
+use Rattle.writer.specs.declared.state.Laid.the-variants.{Refused as NotLaid, Finished, Unfinished}
 use Rattle.writer.specs.State.{isPart, laidOf, endIn}
 use Rattle.writer.specs.Answers.{Left, Added}
 use Rattle.writer.specs.Block.{wordsIn}
@@ -290,12 +290,12 @@ module _ (system mode : ℕ) (f v : Bool) (t : Settings) (held : Held t) (known 
   -- the block is new, or the unfinished one
   record Fitting (d : Desk) (b : Block) : Type 0 where
     same : isOther (d .writer .rest) (b .kind) (length (b .values)) ≡ false
-    kept : (d .writer .rest ≡ Whole) ⊎ (d .values ≡ b .values)
+    kept : (d .writer .rest ≡ NoBlock) ⊎ (d .values ≡ b .values)
 
   module _ (b : Block) (us : List Block) (passes : Passes mode t b) where
     -- what goes on behind the block
     After : Type 0
-    After = (x : ℕ) (d : Desk) → Working x d → d .writer .rest ≡ Whole → Ways (length (d .now .pieces)) x d (map blockOf (d .now .blocks) ++ us)
+    After = (x : ℕ) (d : Desk) → Working x d → d .writer .rest ≡ NoBlock → Ways (length (d .now .pieces)) x d (map blockOf (d .now .blocks) ++ us)
 
     Again : ℕ → Type 0
     Again fuel =
@@ -380,7 +380,7 @@ module _ (system mode : ℕ) (f v : Bool) (t : Settings) (held : Held t) (known 
       lays = by (adding (d .writer) (d .now .words) kind vs .answer) refl
         where
           by : (a : Laid) → adding (d .writer) (d .now .words) (b .kind) (b .values) .answer ≡ a → Ways (suc (length (d .now .pieces))) x d (map blockOf (d .now .blocks) ++ (b ∷ us))
-          by (Not k) e = absurd (refused-fault d (b .kind) (b .values) k e clear)
+          by (NotLaid k) e = absurd (refused-fault d (b .kind) (b .values) k e clear)
           by Finished e = by-finished e
           by Unfinished e = by-unfinished e
 
@@ -414,7 +414,7 @@ module _ (system mode : ℕ) (f v : Bool) (t : Settings) (held : Held t) (known 
     lay-block (suc fuel) behind x d w fit few = lay-or-next fuel x d w fit few behind (lay-block fuel behind)
 
   -- ---- any blocks
-  lay-all : (bs : List Block) → All (Passes mode t) bs → (x : ℕ) (d : Desk) → Working x d → d .writer .rest ≡ Whole
+  lay-all : (bs : List Block) → All (Passes mode t) bs → (x : ℕ) (d : Desk) → Working x d → d .writer .rest ≡ NoBlock
       → Ways (length (d .now .pieces)) x d (map blockOf (d .now .blocks) ++ bs)
   unfolding Again After
   lay-all [] h x d w whole =

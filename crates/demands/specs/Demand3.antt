@@ -14,7 +14,7 @@ use Rattle.line.specs.Layout.{areaLength}
 use Rattle.line.specs.Check.{settingsOf}
 use Rattle.course.specs.declared.Place.the-variants.{Shut}
 use Rattle.course.specs.Course.{nextNumber}
-use Rattle.writer.specs.declared.state.Rest.the-variants.{Whole}
+use Rattle.writer.specs.declared.state.Rest.the-variants.{NoBlock}
 use Rattle.reader.specs.declared.state.Reader.{Reader}
 use Rattle.reader.specs.State.{capacity, fresh}
 use Rattle.demands.specs.All.{All}
@@ -72,7 +72,7 @@ pub record Demand3 : Type 0 where
   -- the bound is needed: with runs of one frame it is false, of system 0 in 8-bit mode
   pub needed : HandsOut 0 8 (systemOf 0 .lines + 1) → ⊥
   -- the values are those laid: of a new block those lent, and of a block lent again unchanged the same
-  pub lent : (d : Desk) (vs : List ℕ) → (d .writer .rest ≡ Whole) ⊎ (d .values ≡ vs) → valuesNow d vs ≡ vs
+  pub lent : (d : Desk) (vs : List ℕ) → (d .writer .rest ≡ NoBlock) ⊎ (d .values ≡ vs) → valuesNow d vs ≡ vs
   -- so, in the demand's own words: of the blocks as lent those that survive, with types and values as lent
   pub as-demanded : (system mode : ℕ) (t : Settings) (cs : List Call) (fs : List Fate) → Demanded system mode t cs fs
       → (room : List ℕ) → length room ≡ capacity → (hs : List Heard) → Reads (fresh system mode) room (remain fs (sentFresh system mode cs)) hs

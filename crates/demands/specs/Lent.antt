@@ -8,7 +8,7 @@ use lib.ListN.{length}
 use Rattle.writer.specs.declared.state.Answer.{Answer}
 use Rattle.writer.specs.declared.state.Answer.the-variants.{Refused, Done}
 use Rattle.writer.specs.declared.state.Laid.{Laid}
-use Rattle.writer.specs.declared.state.Laid.the-variants.{Not, Finished, Unfinished}
+use Rattle.writer.specs.declared.state.Laid.the-variants.{Refused as NotLaid, Finished, Unfinished}
 use Rattle.writer.specs.State.{isPart}
 use Rattle.writer.specs.Opening.{opening}
 use Rattle.writer.specs.Adding.{addFault, adding}
@@ -29,7 +29,7 @@ Unchanged d (closes ∷ cs) = Unchanged (after d closes) cs
 -- ---- the blocks, with the pieces in which they were laid
 -- what an addition finishes
 abbrev pub finishedBy : Laid → Desk → ℕ → List ℕ → List Complete
-finishedBy (Not k) d kind vs = []
+finishedBy (NotLaid k) d kind vs = []
 finishedBy Finished d kind vs = record { block = record { kind = kind; values = vs }; pieces = d .pieces ++ (pieceNow d kind vs ∷ []) } ∷ []
 finishedBy Unfinished d kind vs = []
 

@@ -9,7 +9,7 @@ use Rattle.writer.specs.declared.state.Writer.{Writer}
 use Rattle.writer.specs.declared.state.Answer.{Answer}
 use Rattle.writer.specs.declared.state.Answer.the-variants.{Refused, Done}
 use Rattle.writer.specs.declared.state.Laid.{Laid}
-use Rattle.writer.specs.declared.state.Laid.the-variants.{Not, Finished, Unfinished}
+use Rattle.writer.specs.declared.state.Laid.the-variants.{Refused as NotLaid, Finished, Unfinished}
 use Rattle.writer.specs.State.{laidOf, fresh}
 use Rattle.writer.specs.Answers.{Left, Added}
 use Rattle.writer.specs.Opening.{opening}
@@ -97,7 +97,7 @@ abbrev pub completeNow : Desk → ℕ → List ℕ → Complete
 completeNow d kind vs = record { block = record { kind = kind; values = valuesNow d vs }; pieces = d .pieces ++ (pieceNow d kind vs ∷ []) }
 
 abbrev pub addedBy : Laid → Added → Desk → ℕ → List ℕ → Desk
-addedBy (Not k) x d kind vs =
+addedBy (NotLaid k) x d kind vs =
     record { writer = x .state; now = with (d .now) (d .now .pieces) (d .now .blocks) (x .line); closed = d .closed; values = d .values; pieces = d .pieces }
 addedBy Finished x d kind vs =
     record {

@@ -10,7 +10,7 @@ use Rattle.line.specs.Systems.{systemOf}
 use Rattle.line.specs.Fixed.{isVariable, sizeOf, placesOf}
 use Rattle.course.specs.Course.{nextNumber, blocksEnd}
 use Rattle.writer.specs.declared.state.Rest.{Rest}
-use Rattle.writer.specs.declared.state.Rest.the-variants.{Whole, Part}
+use Rattle.writer.specs.declared.state.Rest.the-variants.{NoBlock, Part}
 use Rattle.writer.specs.declared.state.Writer.{Writer}
 use Rattle.writer.specs.declared.state.Answer.the-variants.{Done}
 use Rattle.writer.specs.Closing.{closing}
@@ -57,7 +57,7 @@ pub record Writes (system mode : ℕ) (f v : Bool) (n : ℕ) (t : Settings) (bs 
 
 -- the type of an unfinished block is one byte, as the writer's state has it
 abbrev pub TypeHeld : Rest → Type 0
-TypeHeld Whole = Unit {0}
+TypeHeld NoBlock = Unit {0}
 TypeHeld (Part kind n j) = kind ≤ 0xFF
 
 -- Calls on an open line, and then a closing that is done.

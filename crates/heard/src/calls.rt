@@ -23,7 +23,7 @@ fn number_of(a: Answer) -> u64 {
 
 fn number_laid(a: Laid) -> u64 {
     match a {
-        Laid::Not(n) => n as u64,
+        Laid::Refused(n) => n as u64,
         Laid::Finished => 0,
         Laid::Unfinished => 100,
     }

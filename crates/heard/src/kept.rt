@@ -34,7 +34,7 @@ fn numbers_of_phase(phase: Phase) -> [u64; 5] {
 
 fn numbers_of_rest(rest: Rest) -> [u64; 5] {
     match rest {
-        Rest::Whole => [0, 0, 0, 0, 0],
+        Rest::NoBlock => [0, 0, 0, 0, 0],
         Rest::Part { kind, count, laid } => [1, kind as u64, count as u64, laid as u64, 0],
     }
 }

@@ -68,7 +68,7 @@ fn phase_of(s: &[u64; 52]) -> Phase {
 
 fn rest_of(s: &[u64; 52]) -> Rest {
     if s[6] == 0 {
-        return Rest::Whole;
+        return Rest::NoBlock;
     }
     Rest::Part {
         kind: byte(s[7]),

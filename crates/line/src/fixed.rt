@@ -4,7 +4,7 @@ ghost use mathlib.Core.Path.{_≡_};
 ghost use Prim.Native.Nat.{_+_, _*_};
 ghost use lib.Dec.{eqb};
 ghost use Rattle.lists.specs.Tests.{pick};
-ghost use Rattle.line.specs.Fixed.{table, find, fixedOf, placesOf, sizeOf, isVariable, blockRefused};
+ghost use Rattle.line.specs.Fixed.{table, find, fixedOf, isVariable, blockRefused};
 
 // A kind of fixed blocks: size with the type word, and places at each rate.
 pub struct Fixed {
@@ -77,26 +77,11 @@ pub fn fixed_of(block: u8) -> Fixed
     }
 }
 
-// The size of a block, its type word included.
-pub fn size_of(block: u8) -> u16
-    ensures { λ r. ⌜ r ≡ sizeOf block ⌝ }
-{
-    let x = fixed_of(block);
-    x.size
-}
-
 // The places of a kind where the payload is P words.
 pub fn places_in(payload: usize, x: Fixed) -> u16
     ensures { λ r. ⌜ r ≡ pick (eqb payload 1440) (x .at270) (x .at360) ⌝ }
 {
     if payload == 1440 { x.at270 } else { x.at360 }
-}
-
-// The places of a block type where the payload is P words.
-pub fn places_of(payload: usize, block: u8) -> u16
-    ensures { λ r. ⌜ r ≡ placesOf payload block ⌝ }
-{
-    places_in(payload, fixed_of(block))
 }
 
 // Block type C1h is the variable one.

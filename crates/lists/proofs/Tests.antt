@@ -35,6 +35,10 @@ both-true false b e = (e, absurd (subst T (sym e) tt))
 pub and-true : {a b : Bool} → a ≡ true → b ≡ true → (a && b) ≡ true
 and-true p q = ap₂ _&&_ p q
 
+pub and-none : (a b : Bool) → b ≡ false → (a && b) ≡ false
+and-none true b e = e
+and-none false b e = refl
+
 -- two tests agree
 abbrev pub agree : Bool → Bool → Bool
 agree true b = b
@@ -87,6 +91,12 @@ below (suc n) f t k h =
 pub pick-true : {A : Type 0} {b : Bool} (x y : A) → b ≡ true → pick b x y ≡ x
 unfolding pick
 pick-true {A} {b} x y e = ap (λ (t : Bool). pick t x y) e
+
+-- what each has, the chosen one has
+pub pick-elim : {A : Type 0} (P : A → Type 0) (b : Bool) {x y : A} → (b ≡ true → P x) → (b ≡ false → P y) → P (pick b x y)
+unfolding pick
+pick-elim P true h k = h refl
+pick-elim P false h k = k refl
 
 pub pick-false : {A : Type 0} {b : Bool} (x y : A) → b ≡ false → pick b x y ≡ y
 unfolding pick

@@ -52,14 +52,14 @@ pub fn or_next(first: u8, next: u8) -> u8
 }
 
 // a - b, or 0.
-pub fn less(a: usize, b: usize) -> usize
+pub fn minus_or_zero(a: usize, b: usize) -> usize
     ensures { λ r. ⌜ r ≡ a - b ⌝ }
 {
     if b < a { a - b } else { 0 }
 }
 
 // The smaller.
-pub fn at_most(a: usize, b: usize) -> usize
+pub fn smaller_of(a: usize, b: usize) -> usize
     ensures { λ r. ⌜ r ≡ min a b ⌝ }
 {
     if a < b { a } else { b }

@@ -11,7 +11,7 @@ use lib.ListN.{length, getD, take, drop, length-append, length-drop, length-map,
 use lib.Seq.{length-take-le}
 use borrow.Author.Tests.{le-ltb, leb-false, ltb-true, ltb-false}
 use Rattle.lists.specs.Tests.{pick}
-use Rattle.lists.proofs.Tests.{true-false, or-false, false-or}
+use Rattle.lists.proofs.Tests.{true-false, or-false, false-or, and-none}
 use Rattle.words.specs.Modes.{valueOf}
 use Rattle.words.specs.Class.{classOf}
 use Rattle.words.specs.declared.class.Class.{Class}
@@ -56,10 +56,6 @@ count-steady room p Other next e = passes room p _ _ refl
 count-steady room p Separator next e = passes room p _ _ refl
 count-steady room p Ending next e = passes room p _ _ refl
 count-steady room p Illegal next e = passes room p _ _ refl
-
-pub and-none : (a b : Bool) → b ≡ false → (a && b) ≡ false
-and-none true b e = e
-and-none false b e = refl
 
 -- a count that the room has space for, and nothing collected
 counted-by : (room : ℕ) (p : Phase) (k n : ℕ) (b : Bool) → ltb room n ≡ b → Steady room p (pick b (dropped 3) (on (Data k n 0)))

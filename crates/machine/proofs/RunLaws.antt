@@ -13,7 +13,7 @@ use lib.Seq.{length-take-le, take-suc-set, drop-set-lt, append-snoc, paste, past
 use borrow.Rule.Slice.PartMut.{putMid}
 use borrow.Author.Tests.{lt-leb, lt-ltb}
 use Rattle.lists.specs.Tests.{pick}
-use Rattle.lists.proofs.Tests.{pick-true, pick-false}
+use Rattle.lists.proofs.Tests.{pick-true, pick-false, and-none}
 use Rattle.lists.proofs.Lists.{map-part}
 use Rattle.lists.proofs.Loops.{next-drop, mid-paste}
 use Rattle.words.specs.Modes.{valueOf}
@@ -26,9 +26,8 @@ use Rattle.machine.specs.declared.step.Met.the-variants.{Nothing}
 use Rattle.machine.specs.declared.step.Step.{Step}
 use Rattle.machine.specs.Machine.{on, idleStep, valueStep, dataStep, stepOf}
 use Rattle.machine.specs.Walk.{Walk, past, stored, walkOf}
-use Rattle.machine.specs.Runs.{runOf, endOf, takenBy, ranPhase, ranRoom}
+use Rattle.machine.specs.Runs.{runOf, limitOf, takenBy, ranPhase, ranRoom}
 use Rattle.machine.proofs.WalkLaws.{past-zero, past-past, word-goes}
-use Rattle.machine.proofs.Kept.{and-none}
 
 -- ---- where a run ends
 pub run-code : (w : ℕ) (ws : List ℕ) → isCode (classOf w) ≡ true → runOf (w ∷ ws) ≡ 0
@@ -85,19 +84,20 @@ idle-word : (room w : ℕ) → isCode (classOf w) ≡ false → stepOf room Idle
 unfolding stepOf
 idle-word room w e = idle-class (classOf w) e
 
-data-class : (room k n m : ℕ) (c : Class) → isCode c ≡ false → dataStep room k n m c ≡ valueStep room k n m
+pub data-class : (room k n m : ℕ) (c : Class) → isCode c ≡ false → dataStep room k n m c ≡ valueStep room k n m
 data-class room k n m Byte e = refl
 data-class room k n m Other e = refl
 data-class room k n m Separator e = absurd (subst T e tt)
 data-class room k n m Ending e = absurd (subst T e tt)
 data-class room k n m Illegal e = refl
 
-abbrev collecting : ℕ → ℕ → ℕ → Step
+-- the step of a value that is kept
+abbrev pub collecting : ℕ → ℕ → ℕ → Step
 collecting k n m = record { phase = Data k n (m + 1); met = Nothing; keeps = true }
 
 -- there is space for a word
-pub has-space : (room n m : ℕ) → m < endOf room n → (m < room) × ((not (eqb n 0) && leb n m) ≡ false)
-unfolding endOf pick
+pub has-space : (room n m : ℕ) → m < limitOf room n → (m < room) × ((not (eqb n 0) && leb n m) ≡ false)
+unfolding limitOf pick
 has-space room n m = go (eqb n 0)
   where
     go : (b : Bool) → m < pick b room (min n room) → (m < room) × ((not b && leb n m) ≡ false)
@@ -105,16 +105,16 @@ has-space room n m = go (eqb n 0)
     go false h = (omega arith, lt-leb n m (omega arith))
 
 -- a value that is not past a met count, and for which there is room
-pub value-kept : (room k n m : ℕ) → (not (eqb n 0) && leb n m) ≡ false → m < room → valueStep room k n m ≡ record { phase = Data k n (m + 1); met = Nothing; keeps = true }
+pub value-kept : (room k n m : ℕ) → (not (eqb n 0) && leb n m) ≡ false → m < room → valueStep room k n m ≡ collecting k n m
 unfolding valueStep
 value-kept room k n m e h =
     pick-false _ _ e ∙ pick-false _ _ (and-none (eqb n 0) (leb room m) (lt-leb room m h))
     ∙ ap (λ (b : Bool). record { phase = Data k n (m + 1); met = Nothing; keeps = b }) (lt-ltb m room h)
 
-value-word : (room k n m : ℕ) → m < endOf room n → valueStep room k n m ≡ collecting k n m
+value-word : (room k n m : ℕ) → m < limitOf room n → valueStep room k n m ≡ collecting k n m
 value-word room k n m h = let s = has-space room n m h in value-kept room k n m (s .1) (s .0)
 
-data-word : (room k n m w : ℕ) → isCode (classOf w) ≡ false → m < endOf room n → stepOf room (Data k n m) w ≡ collecting k n m
+data-word : (room k n m w : ℕ) → isCode (classOf w) ≡ false → m < limitOf room n → stepOf room (Data k n m) w ≡ collecting k n m
 unfolding stepOf
 data-word room k n m w e h = data-class room k n m (classOf w) e ∙ value-word room k n m h
 
@@ -150,7 +150,7 @@ paste-behind room vs m v j h =
     (drop-set-lt (m + 1 + j) room m v (omega arith) ∙ ap (λ (n : ℕ). drop n room) e)
     ∙ ap (λ (a : List ℕ). a ++ drop (m + suc j) room) (append-snoc (take m room) v (take j vs))
 
-data-run : (mode k n : ℕ) (j m : ℕ) (ws room : List ℕ) → j ≤ runOf ws → j ≤ endOf (length room) n - m
+data-run : (mode k n : ℕ) (j m : ℕ) (ws room : List ℕ) → j ≤ runOf ws → j ≤ limitOf (length room) n - m
     → walkOf mode (Data k n m) ws room ≡ past j (walkOf mode (Data k n (m + j)) (drop j ws) (paste room m (map (valueOf mode) ws) j))
 data-run mode k n zero m ws room h s =
     ap₂ (λ (x : ℕ) (r : List ℕ). walkOf mode (Data k n x) ws r) (sym (add-zero m)) (paste-zero room m (map (valueOf mode) ws)) ∙ sym (past-zero _)
@@ -158,9 +158,9 @@ data-run mode k n (suc j) m [] room h s = absurd (run-none j h)
 data-run mode k n (suc j) m (w ∷ ws) room h s =
     let b = run-begins w ws j h in
     let v = valueOf mode w in
-    let more : m < endOf (length room) n = omega arith in
+    let more : m < limitOf (length room) n = omega arith in
     let long : length (set room m v) ≡ length room = length-set room m v in
-    let left : j ≤ endOf (length (set room m v)) n - (m + 1) = rw long (omega arith) in
+    let left : j ≤ limitOf (length (set room m v)) n - (m + 1) = rw long (omega arith) in
     word-goes mode (Data k n m) w ws room (collecting k n m) (sym (data-word (length room) k n m w (b .0) more)) (set room m v) (data-stored m v room) refl
     ∙ ap (past 1) (data-run mode k n j (m + 1) ws (set room m v) (b .1) left)
     ∙ past-past 1 j _
@@ -180,7 +180,7 @@ run-taken mode (Second t a) ws room k e = none mode (Second t a) ws room k e
 run-taken mode (Third t a b) ws room k e = none mode (Third t a b) ws room k e
 run-taken mode (Fourth t a b c) ws room k e = none mode (Fourth t a b c) ws room k e
 run-taken mode (Data t n m) ws room k e =
-    let x = run-of-part (min (length ws) (endOf (length room) n - m)) ws in
+    let x = run-of-part (min (length ws) (limitOf (length room) n - m)) ws in
     data-run mode t n k m ws room (omega (arith, e, x .0)) (omega (arith, e, x .1))
 
 -- ---- the loop that finds a run's end
@@ -203,10 +203,10 @@ taken-within (First t) room ws = omega arith
 taken-within (Second t a) room ws = omega arith
 taken-within (Third t a b) room ws = omega arith
 taken-within (Fourth t a b c) room ws = omega arith
-taken-within (Data t n m) room ws = let x = run-of-part (min (length ws) (endOf room n - m)) ws in omega (arith, x .1)
+taken-within (Data t n m) room ws = let x = run-of-part (min (length ws) (limitOf room n - m)) ws in omega (arith, x .1)
 
-end-in-room : (room n : ℕ) → endOf room n ≤ room
-unfolding endOf pick
+end-in-room : (room n : ℕ) → limitOf room n ≤ room
+unfolding limitOf pick
 end-in-room room n = go (eqb n 0)
   where
     go : (b : Bool) → pick b room (min n room) ≤ room
@@ -215,13 +215,13 @@ end-in-room room n = go (eqb n 0)
 
 pub data-fits : (t n m room : ℕ) (ws : List ℕ) (k : ℕ) → k ≡ takenBy (Data t n m) room ws → (k ≡ 0 → ⊥) → m + k ≤ room
 data-fits t n m room ws k e some =
-    let x = run-of-part (min (length ws) (endOf room n - m)) ws in
+    let x = run-of-part (min (length ws) (limitOf room n - m)) ws in
     omega (arith, e, some, x .1, end-in-room room n)
 
 -- and the number collected stays below any bound of the room
 pub data-small : (t n m room : ℕ) (ws : List ℕ) (k bound : ℕ) → k ≡ takenBy (Data t n m) room ws → m < bound → room < bound → m + k < bound
 data-small t n m room ws k bound e low high =
-    let x = run-of-part (min (length ws) (endOf room n - m)) ws in
+    let x = run-of-part (min (length ws) (limitOf room n - m)) ws in
     omega (arith, e, x .1, end-in-room room n)
 
 -- ---- parts lent for a run

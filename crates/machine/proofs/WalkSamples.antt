@@ -1,12 +1,11 @@
 -- The machine's definitions at work: the worked block of 01, each drop, and places of fixed lines, in one checked list with one claim.
 -- The room's length is the machine's capacity, so a short room shows what a room of 16,384 words would.
 -- Assumes nothing.
-use mathlib.Core.Bool.{Bool, true, _&&_}
 use mathlib.Core.List.{List, [], _∷_, _++_}
 use Prim.Native.Nat.{ℕ}
 use lib.Dec.{T}
 use lib.ListN.{replicate}
-use Rattle.lists.specs.Lists.{same}
+use Rattle.lists.proofs.Samples.{Case, case, hold}
 use Rattle.words.specs.Forms.{isByte}
 use Rattle.words.specs.Modes.{valueOf}
 use Rattle.words.specs.Class.{classOf}
@@ -35,18 +34,6 @@ worked = 0x309 ∷ 0x101 ∷ 0x203 ∷ 0x200 ∷ 0x200 ∷ 0x200 ∷ 0x200 ∷ 0
 -- the start of a block of type 01h of that count, in byte form
 head : ℕ → List ℕ
 head n = 0x309 ∷ 0x101 ∷ n ∷ 0x200 ∷ 0x200 ∷ 0x200 ∷ []
-
--- what the definitions give, and what 01 has
-pub record Case : Type 0 where
-  pub given : List ℕ
-  pub wanted : List ℕ
-
-abbrev case : List ℕ → List ℕ → Case
-case g w = record { given = g; wanted = w }
-
-pub hold : List Case → Bool
-hold [] = true
-hold (c ∷ cs) = same (c .given) (c .wanted) && hold cs
 
 -- the worked block, after filler and before it; in two parts; and one of no stated count, of 9-bit values
 pub blocks : List Case

@@ -17,8 +17,8 @@ runOf [] = 0
 runOf (w ∷ ws) = let on = runOf ws in pick (isCode (classOf w)) 0 (suc on)
 
 -- how many data words a block may have: up to the count, if it is stated, and to the room's end
-unfoldable pub endOf : ℕ → ℕ → ℕ
-endOf room n = pick (eqb n 0) room (min n room)
+unfoldable pub limitOf : ℕ → ℕ → ℕ
+limitOf room n = pick (eqb n 0) room (min n room)
 
 -- how many words a phase takes at once: idle passes over a run, data takes as much of one as there is space for
 abbrev pub takenBy : Phase → ℕ → List ℕ → ℕ
@@ -28,7 +28,7 @@ takenBy (First k) room ws = 0
 takenBy (Second k a) room ws = 0
 takenBy (Third k a b) room ws = 0
 takenBy (Fourth k a b c) room ws = 0
-takenBy (Data k n m) room ws = runOf (take (min (length ws) (endOf room n - m)) ws)
+takenBy (Data k n m) room ws = runOf (take (min (length ws) (limitOf room n - m)) ws)
 
 -- the phase and the room after k words of a run
 abbrev pub ranPhase : Phase → ℕ → Phase

@@ -87,7 +87,7 @@ pub fn walk_fixed(mode: u8, phase: Phase, size: usize, words: &[u16], room: &mut
     ensures { λ r. ⌜ (leaves r (now (room .exit)) ≡ walkFixed mode phase size (now (words .entry)) (now (room .entry)))
         × (numbersOf r ≡ fixedBy (length (now (room .entry))) (phaseNumbers phase) size (now (words .entry))) ⌝ }
 {
-    if (size == 0) | (room.len() < lists::less(size, 1)) {
+    if (size == 0) | (room.len() < lists::minus_or_zero(size, 1)) {
         return Walked {
             phase: phase,
             met: Met::Nothing,

@@ -8,7 +8,7 @@ ghost use mathlib.Core.List.{map};
 ghost use lib.ListN.{length};
 ghost use Rattle.words.specs.Modes.{valueOf};
 ghost use Rattle.machine.specs.declared.phase.Phase.the-variants.{Data};
-ghost use Rattle.machine.specs.Runs.{runOf, endOf, takenBy, ranPhase, ranRoom};
+ghost use Rattle.machine.specs.Runs.{runOf, limitOf, takenBy, ranPhase, ranRoom};
 
 // A run taken: the phase behind it, and how many words it has.
 pub(crate) struct Ran {
@@ -31,13 +31,13 @@ fn run_of(words: &[u16]) -> usize
 }
 
 // How many data words a block may have: up to the count, if it is stated, and to the room's end.
-fn end_of(room: usize, n: usize) -> usize
-    ensures { λ r. ⌜ r ≡ endOf room n ⌝ }
+fn limit_of(room: usize, n: usize) -> usize
+    ensures { λ r. ⌜ r ≡ limitOf room n ⌝ }
 {
     if n == 0 {
         return room;
     }
-    lists::at_most(n, room)
+    lists::smaller_of(n, room)
 }
 
 // The values of words, into a part of the room of their length.
@@ -57,8 +57,8 @@ fn collect_run(mode: u8, kind: u8, n: usize, m: usize, words: &[u16], room: &mut
     ensures { λ r. ⌜ (r ≡ takenBy (Data kind n m) (length (now (room .entry))) (now (words .entry)))
         × (now (room .exit) ≡ ranRoom mode (Data kind n m) (now (words .entry)) r (now (room .entry))) ⌝ }
 {
-    let space = lists::less(end_of(room.len(), n), m);
-    let most = lists::at_most(words.len(), space);
+    let space = lists::minus_or_zero(limit_of(room.len(), n), m);
+    let most = lists::smaller_of(words.len(), space);
     let k = run_of(&words[..most]);
     if k == 0 {
         return 0;

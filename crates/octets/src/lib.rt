@@ -17,7 +17,7 @@ fn joined(low: u8, high: u8) -> u16
 pub fn words_of(bytes: &[u8], out: &mut [u16])
     ensures { λ _. ⌜ now (out .exit) ≡ paste (now (out .entry)) 0 (wordsOf (now (bytes .entry))) (min (length (wordsOf (now (bytes .entry)))) (length (now (out .entry)))) ⌝ }
 {
-    let n = lists::at_most(bytes.len() / 2, out.len());
+    let n = lists::smaller_of(bytes.len() / 2, out.len());
     let mut i = 0;
     while i < n {
         out[i] = joined(bytes[2 * i], bytes[2 * i + 1]);
@@ -42,7 +42,7 @@ fn high(w: u16) -> u8
 pub fn bytes_of(words: &[u16], out: &mut [u8])
     ensures { λ _. ⌜ now (out .exit) ≡ paste (now (out .entry)) 0 (bytesOf (now (words .entry))) (2 * min (length (now (words .entry))) (length (now (out .entry)) / 2)) ⌝ }
 {
-    let n = lists::at_most(words.len(), out.len() / 2);
+    let n = lists::smaller_of(words.len(), out.len() / 2);
     let mut i = 0;
     while i < n {
         out[2 * i] = low(words[i]);

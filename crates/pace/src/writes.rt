@@ -14,7 +14,7 @@ pub struct Kept {
 
 fn is_finished(answer: Laid) -> bool {
     match answer {
-        Laid::Not(_) => false,
+        Laid::Refused(_) => false,
         Laid::Finished => true,
         Laid::Unfinished => false,
     }

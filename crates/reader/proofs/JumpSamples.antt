@@ -1,12 +1,11 @@
 -- The jumps of 01 at work, in one checked list with one claim.
 -- Assumes nothing.
-use mathlib.Core.Bool.{Bool, true, _&&_}
 use mathlib.Core.List.{List, [], _∷_}
 use Prim.Native.Nat.{ℕ, suc}
 use lib.Dec.{T}
 use lib.IntN.{pos, negsuc}
 use Rattle.lists.specs.Tests.{pick}
-use Rattle.lists.specs.Lists.{same}
+use Rattle.lists.proofs.Samples.{Case, case, hold}
 use Rattle.course.specs.declared.Last.the-variants.{Unknown, Number}
 use Rattle.course.specs.Course.{nextNumber}
 use Rattle.reader.specs.declared.jump.Jump.{Jump}
@@ -18,18 +17,6 @@ jumped : Jump → List ℕ
 jumped NotKnown = []
 jumped (Known (pos n)) = 0 ∷ n ∷ []
 jumped (Known (negsuc n)) = 1 ∷ suc n ∷ []
-
--- what the definitions give, and what 01 has
-pub record Case : Type 0 where
-  pub given : List ℕ
-  pub wanted : List ℕ
-
-abbrev case : List ℕ → List ℕ → Case
-case g w = record { given = g; wanted = w }
-
-pub hold : List Case → Bool
-hold [] = true
-hold (c ∷ cs) = same (c .given) (c .wanted) && hold cs
 
 -- the number after N is 1; half a frame is the most either way
 pub jumps : List Case

@@ -9,7 +9,7 @@ use lib.Dec.{eqb, leb}
 use lib.ListN.{length, getD}
 use borrow.Author.Tests.{eqb-true, not-false}
 use Rattle.lists.specs.Tests.{pick}
-use Rattle.lists.proofs.Tests.{true-false, or-left, false-or, both-true, and-true, pick-true, pick-false}
+use Rattle.lists.proofs.Tests.{true-false, false-or, both-true, and-true, pick-true, pick-false, and-none, pick-elim}
 use Rattle.lists.proofs.Refusals.{given-holds, lowest-clear, clear-lowest, clear-split}
 use Rattle.line.specs.declared.settings.Settings.{Settings}
 use Rattle.line.specs.declared.check.Checked.{Checked}
@@ -19,10 +19,9 @@ use Rattle.line.specs.Systems.{systemOf}
 use Rattle.line.specs.Fixed.{isVariable, placesOf, sizeOf}
 use Rattle.line.specs.Settings.{settingsFaults, settingsFault, sameSettings}
 use Rattle.line.specs.Check.{low, numberOf, settingsOf, numbered, headFaults, payloadFaults, faults, lineFaults, lineFault, checkedFrom, checkedOf}
-use Rattle.course.specs.Course.{isAt, misplaced}
+use Rattle.course.specs.Course.{misplaced}
 use Rattle.line.proofs.CheckLaws.{check-rising, fault-not-2}
-use Rattle.line.proofs.SettingsLaws.{same-block}
-use Rattle.course.proofs.CourseLaws.{start-placed, variable-placed, grid-next, grid-left, begun}
+use Rattle.course.proofs.CourseLaws.{start-placed, variable-placed, grid-next, grid-left, begun, begins}
 use Rattle.machine.specs.declared.phase.Phase.{Phase}
 use Rattle.machine.specs.declared.phase.Phase.the-variants.{Idle}
 use Rattle.machine.specs.declared.step.Met.{Met}
@@ -37,7 +36,7 @@ use Rattle.reader.specs.declared.state.Told.{Told}
 use Rattle.reader.specs.Jump.{jumpFrom, isZero}
 use Rattle.reader.specs.State.{fresh, impossibleIn}
 use Rattle.reader.specs.Reading.{Call, refused, goesOn, begun as beginning, starts, wordsFrom, walkFrom, toldBy, goesFrom, readFaultsIn, readFaultIn, readFrom, readingIn}
-use Rattle.machine.proofs.Kept.{and-none, walk-kept, places-along}
+use Rattle.machine.proofs.Kept.{walk-kept, places-along}
 use Rattle.reader.proofs.Ready.{course-of, phase-of, possible-by, ReadyIn, ready, at-q, in-end, words-long}
 
 -- ---- a line refused
@@ -76,40 +75,29 @@ goes-same : (st : Reader) (n : ℕ) (t : Settings) → goesOn st n t ≡ true �
 unfolding goesOn
 goes-same st n t e = both-true (isZero (jumpFrom (systemOf (st .system) .lines) (st .last) n)) _ e .1
 
-varied-by : (c : ℕ) (st : Reader) (t : Settings) (b : Bool) → isBusy (st .phase) ≡ b → impossibleIn c st ≡ false → sameSettings t (st .settings) ≡ true
-    → (isBusy (st .phase) && not (isVariable (t .block))) ≡ false
-varied-by c st t false is e h = ap (λ (x : Bool). x && not (isVariable (t .block))) is
-varied-by c st t true is e h =
-    ap (λ (x : ℕ). isBusy (st .phase) && not (isVariable x)) (same-block t (st .settings) h)
-    ∙ begun (st .system) (st .last) (st .settings) (st .place) (isBusy (st .phase)) (course-of c st e) (or-left (isBusy (st .phase)) (isAt (st .place)) is) .varied
-
+-- the phase at the start of a line
 kept-by : (c : ℕ) (st : Reader) (t : Settings) (g : Bool) → impossibleIn c st ≡ false → (g ≡ true → sameSettings t (st .settings) ≡ true)
-    → ((isBusy (pick g (st .phase) Idle) && not (isVariable (t .block))) ≡ false) × (misphased c (pick g (st .phase) Idle) ≡ false)
+    → (isBusy (pick g (st .phase) Idle) ≡ true → (isBusy (st .phase) ≡ true) × (sameSettings t (st .settings) ≡ true)) × (misphased c (pick g (st .phase) Idle) ≡ false)
 unfolding pick
-kept-by c st t true e h = (varied-by c st t (isBusy (st .phase)) refl e (h refl), phase-of c st e)
-kept-by c st t false e h = (refl, refl)
+kept-by c st t true e h = (λ b. (b, h refl), phase-of c st e)
+kept-by c st t false e h = (λ b. absurd (true-false (sym b)), refl)
 
 begin-possible : (c : ℕ) (st : Reader) (n : ℕ) (t : Settings) → impossibleIn c st ≡ false → not (leb 1 n && leb n (systemOf (st .system) .lines)) ≡ false → settingsFault (st .system) t ≡ 0
     → impossibleIn c (beginning st n t .state) ≡ false
 unfolding beginning
 begin-possible c st n t e range clean =
     let k = kept-by c st t (goesOn st n t) e (goes-same st n t) in
-    possible-by c _ (record { number = n; numbered = refl; range = range; clean = ap (λ (x : ℕ). not (eqb x 0)) clean; placed = start-placed (st .system) t clean; varied = k .0 }) (k .1)
-
-told-by : (c : ℕ) (b : Bool) (x y : Told) → (b ≡ true → impossibleIn c (x .state) ≡ false) → impossibleIn c (y .state) ≡ false → impossibleIn c (pick b x y .state) ≡ false
-unfolding pick
-told-by c true x y h k = h refl
-told-by c false x y h k = k
+    possible-by c _ (begins (st .system) (st .last) (st .settings) t (st .place) _ (isBusy (st .phase)) _ n (course-of c st e) range clean (start-placed (st .system) t clean) (k .0)) (k .1)
 
 start-possible : (c : ℕ) (st : Reader) (mode : ℕ) (line : List ℕ) → impossibleIn c st ≡ false → impossibleIn c (starts st (checkedOf (st .system) mode line) .state) ≡ false
 unfolding starts
 start-possible c st mode line e =
     let found = checkedOf (st .system) mode line in
-    told-by c (eqb (found .fault) 0) (beginning st (found .number) (found .settings)) (refused st (found .fault))
+    pick-elim (λ (x : Told). impossibleIn c (x .state) ≡ false) (eqb (found .fault) 0)
     (λ h.
     let s = checked-sound (st .system) mode line (eqb-true _ _ h) in
     begin-possible c st (found .number) (found .settings) e (s .range) (s .clean))
-    (refused-possible c st (found .fault))
+    (λ h. refused-possible c st (found .fault))
 
 -- ---- a line gone on with
 -- what a walk from place q leaves: a place, and a phase that may stand there
@@ -181,16 +169,11 @@ from-place : {c : ℕ} (p : Place) (st : Reader) (line room : List ℕ) → st .
 from-place {c} Shut st line room at r = start-possible c st (st .mode) line (r .state)
 from-place (At q) st line room at r = on-possible st q line room at r
 
-call-by : (c : ℕ) (b : Bool) (x y : Call) → (b ≡ true → impossibleIn c (x .told .state) ≡ false) → impossibleIn c (y .told .state) ≡ false → impossibleIn c (pick b x y .told .state) ≡ false
-unfolding pick
-call-by c true x y h k = h refl
-call-by c false x y h k = k
-
 pub read-possible : (c : ℕ) (st : Reader) (line room : List ℕ) → impossibleIn c st ≡ false → impossibleIn c (readingIn c st line room .told .state) ≡ false
 unfolding readingIn
 read-possible c st line room e =
-    call-by c (eqb (readFaultIn c st (length line) (length room)) 0) (readFrom (st .place) st line room) _
-    (λ h. from-place (st .place) st line room refl (ready c st line room (eqb-true _ _ h))) e
+    pick-elim (λ (x : Call). impossibleIn c (x .told .state) ≡ false) (eqb (readFaultIn c st (length line) (length room)) 0)
+    (λ h. from-place (st .place) st line room refl (ready c st line room (eqb-true _ _ h))) (λ h. e)
 
 -- ---- any calls, from a fresh reader on
 pub fresh-possible : (c : ℕ) (system mode : ℕ) → impossibleIn c (fresh system mode) ≡ false
@@ -218,15 +201,11 @@ fault-from : (n : ℕ) (line : List ℕ) → checkedFrom n line .fault ≡ n
 fault-from zero line = refl
 fault-from (suc n) line = refl
 
-refusal-by : (b : Bool) (x y : Told) → (refusal (x .event) ≡ 2 → ⊥) → (refusal (y .event) ≡ 2 → ⊥) → refusal (pick b x y .event) ≡ 2 → ⊥
-unfolding pick
-refusal-by true x y h k e = h e
-refusal-by false x y h k e = k e
-
 start-2 : (st : Reader) (mode : ℕ) (line : List ℕ) → refusal (starts st (checkedOf (st .system) mode line) .event) ≡ 2 → ⊥
 unfolding starts beginning checkedOf
 start-2 st mode line =
-    refusal-by _ _ _ (λ z. omega arith) (λ z. fault-not-2 (st .system) mode line (sym (fault-from (lineFault (st .system) mode line) line) ∙ z))
+    pick-elim (λ (x : Told). refusal (x .event) ≡ 2 → ⊥) _ (λ h z. omega arith)
+    (λ h z. fault-not-2 (st .system) mode line (sym (fault-from (lineFault (st .system) mode line) line) ∙ z))
 
 told-2 : (st : Reader) (q : ℕ) (p : Phase) (met : Met) → refusal (toldBy st q p met .event) ≡ 2 → ⊥
 told-2 st q p Nothing e = omega arith
@@ -237,11 +216,6 @@ from-2 : (p : Place) (st : Reader) (line room : List ℕ) → refusal (readFrom 
 from-2 Shut st line room = start-2 st (st .mode) line
 from-2 (At q) st line room = told-2 st _ _ (walkFrom st q line room .answer .met)
 
-call-2 : (b : Bool) (x y : Call) → (refusal (x .told .event) ≡ 2 → ⊥) → (refusal (y .told .event) ≡ 2 → ⊥) → refusal (pick b x y .told .event) ≡ 2 → ⊥
-unfolding pick
-call-2 true x y h k e = h e
-call-2 false x y h k e = k e
-
 fault-2 : (c : ℕ) (st : Reader) (long room : ℕ) → impossibleIn c st ≡ false → readFaultIn c st long room ≡ 2 → ⊥
 unfolding readFaultIn
 fault-2 c st long room e z = true-false (sym (given-holds 2 (readFaultsIn c st long room) z (λ x. omega arith)) ∙ false-or e refl)
@@ -249,7 +223,8 @@ fault-2 c st long room e z = true-false (sym (given-holds 2 (readFaultsIn c st l
 pub never-2 : (c : ℕ) (st : Reader) → impossibleIn c st ≡ false → (line room : List ℕ) (d : Bool) → readingIn c st line room .told .event ≡ Refused 2 d → ⊥
 unfolding readingIn
 never-2 c st p line room d e =
-    call-2 (eqb (readFaultIn c st (length line) (length room)) 0) (readFrom (st .place) st line room) _ (from-2 (st .place) st line room) (fault-2 c st (length line) (length room) p)
+    pick-elim (λ (x : Call). refusal (x .told .event) ≡ 2 → ⊥) (eqb (readFaultIn c st (length line) (length room)) 0)
+    (λ h. from-2 (st .place) st line room) (λ h. fault-2 c st (length line) (length room) p)
     (ap refusal e)
 
 pub fresh-never-2 : (c : ℕ) (system mode : ℕ) (st : Reader) → Reached c system mode st → (line room : List ℕ) (d : Bool) → readingIn c st line room .told .event ≡ Refused 2 d → ⊥

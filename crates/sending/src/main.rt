@@ -26,7 +26,7 @@ pub struct Kept {
 // The block was laid to its end.
 fn is_finished(answer: Laid) -> bool {
     match answer {
-        Laid::Not(_) => false,
+        Laid::Refused(_) => false,
         Laid::Finished => true,
         Laid::Unfinished => false,
     }

@@ -73,14 +73,14 @@ pub(crate) fn count_of(k: usize) -> usize
     ensures { λ r. ⌜ r ≤ 3000 ⌝ }
 {
     if k < BLOCKS {
-        return lists::at_most(COUNTS[k], 3000);
+        return lists::smaller_of(COUNTS[k], 3000);
     }
     0
 }
 
 // The block after block k.
 pub(crate) fn after(k: usize) -> usize {
-    lists::at_most(k, BLOCKS) + 1
+    lists::smaller_of(k, BLOCKS) + 1
 }
 
 // The values of a block: the first is its type, and each is 7 more than the one before, modulo 256.

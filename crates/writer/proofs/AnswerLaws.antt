@@ -8,7 +8,7 @@ use lib.ListN.{length, getD}
 use Rattle.writer.specs.declared.state.Answer.{Answer}
 use Rattle.writer.specs.declared.state.Answer.the-variants.{Refused, Done}
 use Rattle.writer.specs.declared.state.Laid.{Laid}
-use Rattle.writer.specs.declared.state.Laid.the-variants.{Not, Finished, Unfinished}
+use Rattle.writer.specs.declared.state.Laid.the-variants.{Refused as NotLaid, Finished, Unfinished}
 use Rattle.writer.specs.Answers.{answerNumbers, laidNumbers}
 
 -- the first and the second number, and how many there are
@@ -28,12 +28,12 @@ answer-injective Done (Refused m) e = absurd (omega (arith, count e))
 answer-injective Done Done e = refl
 
 pub laid-injective : (a b : Laid) → laidNumbers a ≡ laidNumbers b → a ≡ b
-laid-injective (Not n) (Not m) e = ap Not (first e)
-laid-injective (Not n) Finished e = absurd (omega (arith, count e))
-laid-injective (Not n) Unfinished e = absurd (omega (arith, count e))
-laid-injective Finished (Not m) e = absurd (omega (arith, count e))
+laid-injective (NotLaid n) (NotLaid m) e = ap NotLaid (first e)
+laid-injective (NotLaid n) Finished e = absurd (omega (arith, count e))
+laid-injective (NotLaid n) Unfinished e = absurd (omega (arith, count e))
+laid-injective Finished (NotLaid m) e = absurd (omega (arith, count e))
 laid-injective Finished Finished e = refl
 laid-injective Finished Unfinished e = absurd (omega (arith, second e))
-laid-injective Unfinished (Not m) e = absurd (omega (arith, count e))
+laid-injective Unfinished (NotLaid m) e = absurd (omega (arith, count e))
 laid-injective Unfinished Finished e = absurd (omega (arith, second e))
 laid-injective Unfinished Unfinished e = refl

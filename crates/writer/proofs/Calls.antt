@@ -21,10 +21,10 @@ use Rattle.line.specs.Fixed.{isVariable}
 use Rattle.line.specs.Layout.{payloadAt, areaLength, areaOf, endWords}
 use Rattle.course.specs.Course.{placeOf}
 use Rattle.writer.specs.declared.state.Rest.{Rest}
-use Rattle.writer.specs.declared.state.Rest.the-variants.{Whole, Part}
+use Rattle.writer.specs.declared.state.Rest.the-variants.{NoBlock, Part}
 use Rattle.writer.specs.declared.state.Writer.{Writer}
 use Rattle.writer.specs.declared.state.Laid.{Laid}
-use Rattle.writer.specs.declared.state.Laid.the-variants.{Not, Finished, Unfinished}
+use Rattle.writer.specs.declared.state.Laid.the-variants.{Refused as NotLaid, Finished, Unfinished}
 use Rattle.writer.specs.declared.state.Answer.the-variants.{Refused, Done}
 use Rattle.writer.specs.Answers.{left, Added, added}
 use Rattle.writer.specs.State.{laidOf, endIn, moved}
@@ -87,9 +87,9 @@ module _ (w : Writer) (line : List ℕ) (fault : ℕ) (is : fault ≡ closeFault
 
 -- ---- adding
 pub add-refused : (w : Writer) (line : List ℕ) (kind : ℕ) (vs : List ℕ) (fault : ℕ) → fault ≡ addFault w (length line) kind vs → (fault ≡ 0 → ⊥)
-    → added (Not fault) w line ≡ adding w line kind vs
+    → added (NotLaid fault) w line ≡ adding w line kind vs
 unfolding adding
-add-refused w line kind vs fault is h = ap (λ (n : ℕ). added (Not n) w line) is ∙ sym (pick-false _ _ (ne-eqb _ _ (λ e. h (is ∙ e))))
+add-refused w line kind vs fault is h = ap (λ (n : ℕ). added (NotLaid n) w line) is ∙ sym (pick-false _ _ (ne-eqb _ _ (λ e. h (is ∙ e))))
 
 -- the sizes that the code works with: place, words laid, words left, words to lay now, index in the line
 pub record Found (w : Writer) (line : List ℕ) (kind : ℕ) (vs : List ℕ) (p j rest k a : ℕ) : Type 0 where
@@ -114,7 +114,7 @@ pub record Sizes (p j k a kind n long total : ℕ) : Type 0 where
 abbrev leaves : Writer → List ℕ → ℕ → List ℕ → ℕ → ℕ → ℕ → ℕ → ℕ → Added
 leaves w line kind vs p j rest k a =
     added (pick (eqb k rest) Finished Unfinished)
-    (moved w (At (p + k)) (pick (eqb k rest) Whole (Part kind (length vs) (j + k))))
+    (moved w (At (p + k)) (pick (eqb k rest) NoBlock (Part kind (length vs) (j + k))))
     (paste line a (drop j (wordsIn (w .settings .block) (w .mode) kind vs)) k)
 
 module _ {w : Writer} {line : List ℕ} {kind : ℕ} {vs : List ℕ} {p j rest k a : ℕ} (f : Found w line kind vs p j rest k a) where
@@ -144,7 +144,7 @@ module _ {w : Writer} {line : List ℕ} {kind : ℕ} {vs : List ℕ} {p j rest k
 
   add-done : (ys : List ℕ) (after : Rest) (answer : Laid) (st : Writer)
       → ys ≡ take (length (take (a + k - a) (drop a line))) (drop j (wordsIn (w .settings .block) (w .mode) kind vs))
-      → after ≡ pick (eqb k rest) Whole (Part kind (length vs) (j + k)) → answer ≡ pick (eqb k rest) Finished Unfinished
+      → after ≡ pick (eqb k rest) NoBlock (Part kind (length vs) (j + k)) → answer ≡ pick (eqb k rest) Finished Unfinished
       → st ≡ moved w (At (p + k)) after → added answer st (putMid a (a + k - a) line ys) ≡ adding w line kind vs
   unfolding adding
   add-done ys after answer st hy hr ht hs =
@@ -167,7 +167,7 @@ module _ {w : Writer} {line : List ℕ} {kind : ℕ} {vs : List ℕ} {p j rest k
 pub part-done : {w : Writer} {line : List ℕ} {kind : ℕ} {vs : List ℕ} {p j rest k a : ℕ} → Found w line kind vs p j rest k a
     → isVariable (w .settings .block) ≡ true → (ys : List ℕ) (after : Rest) (answer : Laid) (st : Writer)
     → ys ≡ take (length (take (a + k - a) (drop a line))) (drop j (blockWords (w .mode) kind vs))
-    → after ≡ pick (eqb k rest) Whole (Part kind (length vs) (j + k)) → answer ≡ pick (eqb k rest) Finished Unfinished → st ≡ moved w (At (p + k)) after
+    → after ≡ pick (eqb k rest) NoBlock (Part kind (length vs) (j + k)) → answer ≡ pick (eqb k rest) Finished Unfinished → st ≡ moved w (At (p + k)) after
     → added answer st (putMid a (a + k - a) line ys) ≡ adding w line kind vs
 part-done {w} {line} {kind} {vs} {p} {j} {rest} {k} {a} f v ys after answer st e =
     add-done f ys after answer st
@@ -189,13 +189,13 @@ place-found w line kind vs clear v p a hp ha =
 
 pub place-done : {w : Writer} {line : List ℕ} {kind : ℕ} {vs : List ℕ} {p a : ℕ} → Found w line kind vs p 0 (length vs + 1) (length vs + 1) a
     → isVariable (w .settings .block) ≡ false → (ys : List ℕ) (st : Writer) → ys ≡ fixedWords (w .mode) kind vs
-    → st ≡ moved w (At (p + (length vs + 1))) Whole → added Finished st (putMid a (a + (length vs + 1) - a) line ys) ≡ adding w line kind vs
+    → st ≡ moved w (At (p + (length vs + 1))) NoBlock → added Finished st (putMid a (a + (length vs + 1) - a) line ys) ≡ adding w line kind vs
 place-done {w} {line} {kind} {vs} {p} {a} f v ys st e hs =
     let all = words-fixed (w .settings .block) (w .mode) kind vs v in
     let many = part-whole line a (length vs + 1) (sizes f .within) in
     let long = fixed-long (w .mode) kind vs in
     let k = length (take (a + (length vs + 1) - a) (drop a line)) in
     let whole = eq-eqb (length vs + 1) (length vs + 1) refl in
-    add-done f ys Whole Finished st
+    add-done f ys NoBlock Finished st
     (e ∙ sym (take-all k (fixedWords (w .mode) kind vs) (omega (arith, many, long))) ∙ ap (take k) (sym all))
-    (sym (pick-true Whole (Part kind (length vs) (0 + (length vs + 1))) whole)) (sym (pick-true Finished Unfinished whole)) hs
+    (sym (pick-true NoBlock (Part kind (length vs) (0 + (length vs + 1))) whole)) (sym (pick-true Finished Unfinished whole)) hs

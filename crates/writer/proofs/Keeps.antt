@@ -15,7 +15,7 @@ use Rattle.course.specs.declared.Place.the-variants.{Shut}
 use Rattle.line.specs.Systems.{systemOf}
 use Rattle.writer.specs.declared.state.Writer.{Writer}
 use Rattle.writer.specs.declared.state.Answer.the-variants.{Refused, Done}
-use Rattle.writer.specs.declared.state.Laid.the-variants.{Not}
+use Rattle.writer.specs.declared.state.Laid.the-variants.{Refused as NotLaid}
 use Rattle.writer.specs.State.{moved, openState}
 use Rattle.writer.specs.Answers.{left, added}
 use Rattle.writer.specs.Opening.{openFault, openWords, opening}
@@ -67,6 +67,6 @@ module _ (w : Writer) (line : List ℕ) (kind : ℕ) (vs : List ℕ) where
   unfolding adding
   add-leaves e = pick-true _ _ (eq-eqb _ _ e)
 
-  pub add-stays : (addFault w (length line) kind vs ≡ 0 → ⊥) → adding w line kind vs ≡ added (Not (addFault w (length line) kind vs)) w line
+  pub add-stays : (addFault w (length line) kind vs ≡ 0 → ⊥) → adding w line kind vs ≡ added (NotLaid (addFault w (length line) kind vs)) w line
   unfolding adding
   add-stays h = pick-false _ _ (ne-eqb _ _ h)

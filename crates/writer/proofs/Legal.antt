@@ -10,7 +10,7 @@ use lib.ListN.{length, take, drop, replicate}
 use borrow.Author.Tests.{ltb-true}
 use Rattle.lists.specs.Tests.{pick}
 use Rattle.lists.specs.Lists.{each}
-use Rattle.lists.proofs.Tests.{or-left, or-right, both-true}
+use Rattle.lists.proofs.Tests.{or-left, or-right, both-true, pick-elim}
 use Rattle.lists.proofs.Lists.{each-append, each-map}
 use Rattle.words.specs.Forms.{isByte, isData, byteWord, dataWord}
 use Rattle.words.specs.Modes.{values, wordOf}
@@ -37,17 +37,12 @@ each-filler f zero x e = refl
 each-filler f (suc n) x e = ap₂ _&&_ e (each-filler f n x e)
 
 -- ---- words of each kind
-form-by : (m x y : Bool) → x ≡ true → y ≡ true → pick m x y ≡ true
-unfolding pick
-form-by true x y b d = b
-form-by false x y b d = d
-
 byte-any : (v : ℕ) → isByte (byteWord v) ≡ true
 byte-any v = ap isByte (sym (byte-of-low v)) ∙ byte-in (v % 256) (omega arith)
 
 pub byte-legal : (mode : ℕ) (variable : Bool) (v : ℕ) → legal mode variable (byteWord v) ≡ true
 unfolding legal
-byte-legal mode variable v = or-left _ _ (form-by (eqb mode 8) _ _ (byte-any v) (byte-data (byteWord v) (byte-any v)))
+byte-legal mode variable v = or-left _ _ (pick-elim (λ (b : Bool). b ≡ true) (eqb mode 8) (λ e. byte-any v) (λ e. byte-data (byteWord v) (byte-any v)))
 
 value-by : (m : Bool) (v : ℕ) → v < pick m 256 512 → pick m (isByte (pick m (byteWord v) (dataWord v))) (isData (pick m (byteWord v) (dataWord v))) ≡ true
 unfolding pick
@@ -60,7 +55,7 @@ value-legal mode variable v e = or-left _ _ (value-by (eqb mode 8) v (ltb-true v
 
 pub filler-legal : (mode : ℕ) (variable : Bool) → legal mode variable 0x200 ≡ true
 unfolding legal isByte isData
-filler-legal mode variable = or-left _ _ (form-by (eqb mode 8) _ _ refl refl)
+filler-legal mode variable = or-left _ _ (pick-elim (λ (b : Bool). b ≡ true) (eqb mode 8) (λ e. refl) (λ e. refl))
 
 separator-legal : (mode : ℕ) → legal mode true separator ≡ true
 unfolding legal

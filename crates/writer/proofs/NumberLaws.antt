@@ -14,7 +14,7 @@ use Rattle.line.specs.declared.settings.Settings.{Settings}
 use Rattle.course.specs.Course.{placeOf}
 use Rattle.writer.specs.declared.state.Writer.{Writer}
 use Rattle.writer.specs.declared.state.Answer.the-variants.{Refused, Done}
-use Rattle.writer.specs.declared.state.Laid.the-variants.{Not, Finished, Unfinished}
+use Rattle.writer.specs.declared.state.Laid.the-variants.{Refused as NotLaid, Finished, Unfinished}
 use Rattle.writer.specs.Answers.{answerNumbers, laidNumbers, Left, left, Added, added}
 use Rattle.writer.specs.State.{endIn}
 use Rattle.writer.specs.Opening.{openFault, opening}
@@ -54,9 +54,9 @@ lay-numbers w line kind vs =
     ∙ ap (λ (t : Bool). 0 ∷ pick t 1 0 ∷ []) (fits-by (endIn w - placeOf (w .place)) (length (todo w kind vs)))
 
 laid-by : (n : ℕ) (t : Bool) (w : Writer) (line : List ℕ) (x : Added) → laidNumbers (x .answer) ≡ laidBy 0 t
-    → laidNumbers (pick (eqb n 0) x (added (Not n) w line) .answer) ≡ laidBy n t
-laid-by zero t w line x e = ap (λ (y : Added). laidNumbers (y .answer)) (pick-true x (added (Not 0) w line) refl) ∙ e
-laid-by (suc n) t w line x e = ap (λ (y : Added). laidNumbers (y .answer)) (pick-false x (added (Not (suc n)) w line) (eqb·suc-zero n))
+    → laidNumbers (pick (eqb n 0) x (added (NotLaid n) w line) .answer) ≡ laidBy n t
+laid-by zero t w line x e = ap (λ (y : Added). laidNumbers (y .answer)) (pick-true x (added (NotLaid 0) w line) refl) ∙ e
+laid-by (suc n) t w line x e = ap (λ (y : Added). laidNumbers (y .answer)) (pick-false x (added (NotLaid (suc n)) w line) (eqb·suc-zero n))
 
 pub add-numbers : (w : Writer) (line : List ℕ) (kind : ℕ) (vs : List ℕ) → laidNumbers (adding w line kind vs .answer) ≡ laidBy (addFault w (length line) kind vs) (allFits w kind vs)
 unfolding adding

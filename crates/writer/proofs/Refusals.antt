@@ -1,6 +1,6 @@
 -- What a fault number 0 says, and what a possible state has.
 -- Assumes nothing.
-use mathlib.Core.Path.{_≡_, refl, sym, ap}
+use mathlib.Core.Path.{_≡_, sym}
 use mathlib.Core.Bool.{Bool, true, false, _&&_, _||_, not}
 use mathlib.Core.List.{List}
 use Prim.Native.Nat.{ℕ, _+_, _≤_, _<_}
@@ -16,7 +16,7 @@ use Rattle.course.specs.declared.Place.{Place}
 use Rattle.course.specs.declared.Place.the-variants.{Shut, At}
 use Rattle.line.specs.Systems.{systemOf, isSystem}
 use Rattle.line.specs.Fixed.{isVariable}
-use Rattle.line.specs.Settings.{settingsFaults, settingsFault}
+use Rattle.line.specs.Settings.{settingsFaults, settingsFault, sameSettings}
 use Rattle.line.specs.Check.{fitsLength}
 use Rattle.course.specs.Course.{isAt, placeOf, impossibleAfter}
 use Rattle.line.proofs.SystemLaws.{Sound, sound, Fit, fitting}
@@ -25,11 +25,11 @@ use Rattle.line.proofs.AreaLaws.{area-most}
 use Rattle.course.proofs.CourseLaws as laws
 use Rattle.course.proofs.CourseLaws.{end-in-area}
 use Rattle.writer.specs.declared.state.Rest.{Rest}
-use Rattle.writer.specs.declared.state.Rest.the-variants.{Whole, Part}
+use Rattle.writer.specs.declared.state.Rest.the-variants.{NoBlock, Part}
 use Rattle.writer.specs.declared.state.Writer.{Writer}
 use Rattle.writer.specs.State.{most, isPart, laidOf, misshapen, impossible, endIn}
 use Rattle.writer.specs.Adding.{valued, illShaped, isFull, isOther, addFaults, addFault}
-use Rattle.writer.specs.Opening.{openBlocked, openFaults, openFault}
+use Rattle.writer.specs.Opening.{isNext, openBlocked, openFaults, openFault}
 use Rattle.writer.specs.Closing.{closeFaults, closeFault}
 use Rattle.writer.proofs.StateLaws.{open-rising, add-rising, close-rising}
 use Rattle.writer.proofs.BlockLaws.{count, count-variable, count-between}
@@ -70,7 +70,7 @@ possible-by w b = false-or (laws.begun-possible (w .system) (w .last) (w .settin
 -- ---- an unfinished block has a word left
 laid-below : (block : ℕ) (rest : Rest) (kind n : ℕ) → (isPart rest && not (isVariable block)) ≡ false → misshapen rest ≡ false → isOther rest kind n ≡ false
     → laidOf rest < count block n
-laid-below block Whole kind n v m o = count-between block n .0
+laid-below block NoBlock kind n v m o = count-between block n .0
 laid-below block (Part k c j) kind n v m o =
     let a = or-false (ltb most c) _ m .1 in
     let b = ltb-false (c + 6) j (or-false (ltb j 1) (ltb (c + 6) j) a .1) in
@@ -86,15 +86,22 @@ pub record CanOpen (w : Writer) (n : ℕ) (t : Settings) (long : ℕ) : Type 0 w
   pub one : 1 ≤ n
   pub last : n ≤ systemOf (w .system) .lines
   pub clean : settingsFault (w .system) t ≡ 0
-  pub free : openBlocked w n t ≡ false
+  pub shut : isAt (w .place) ≡ false
+  -- an unfinished block goes on with the same settings and the next number
+  pub goes : isPart (w .rest) ≡ true → (sameSettings t (w .settings) ≡ true) × (isNext (systemOf (w .system) .lines) (w .last) n ≡ true)
+
+goes-by : (part same next : Bool) → (part && (not same || not next)) ≡ false → part ≡ true → (same ≡ true) × (next ≡ true)
+goes-by true same next e p = let h = or-false (not same) (not next) e in (not-false same (h .0), not-false next (h .1))
+goes-by false same next e p = absurd (true-false (sym p))
 
 pub can-open : (w : Writer) (n : ℕ) (t : Settings) (long : ℕ) → openFault w n t long ≡ 0 → CanOpen w n t long
-unfolding openFault fitsLength settingsFault
+unfolding openFault openBlocked fitsLength settingsFault
 can-open w n t long e =
     let c = lowest-clear (openFaults w n t long) (open-rising w n t long) e in
     let behind = clear-split (settingsFaults (systemOf (w .system)) t) _ (c .1 .1 .1) in
     let fit = both-true (isSystem (w .system)) _ (not-false _ (c .0)) in
     let range = both-true (leb 1 n) _ (not-false _ (c .1 .1 .0)) in
+    let free = or-false (isAt (w .place)) _ (behind .1 .0) in
     record {
       known = fit .0;
       moded = both-true (isMode (w .mode)) _ (fit .1) .0;
@@ -103,7 +110,8 @@ can-open w n t long e =
       one = leb-true 1 n (range .0);
       last = leb-true n _ (range .1);
       clean = clear-lowest (settingsFaults (systemOf (w .system)) t) (behind .0);
-      free = behind .1 .0;
+      shut = free .0;
+      goes = goes-by (isPart (w .rest)) (sameSettings t (w .settings)) (isNext (systemOf (w .system) .lines) (w .last) n) (free .1);
     }
 
 -- and the other way round

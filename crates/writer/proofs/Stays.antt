@@ -10,29 +10,28 @@ use lib.Dec.{T, eqb, ltb}
 use lib.ListN.{length, getD, drop, length-drop}
 use borrow.Author.Tests.{eqb-true, eqb-false, eq-eqb, le-leb, le-ltb, ltb-false, not-false}
 use Rattle.lists.specs.Tests.{pick}
-use Rattle.lists.proofs.Tests.{true-false, or-left, or-right, or-false, false-or, both-true, and-true, pick-true, pick-false}
+use Rattle.lists.proofs.Tests.{true-false, or-right, or-false, false-or, both-true, and-true, pick-true, pick-elim}
 use Rattle.lists.proofs.Refusals.{given-holds}
 use Rattle.line.specs.declared.settings.Settings.{Settings}
 use Rattle.course.specs.declared.Place.{Place}
 use Rattle.course.specs.declared.Place.the-variants.{Shut, At}
 use Rattle.line.specs.Systems.{systemOf}
 use Rattle.line.specs.Fixed.{sizeOf, isVariable}
-use Rattle.line.specs.Settings.{settingsFaults, sameSettings}
-use Rattle.line.proofs.SettingsLaws.{same-block}
+use Rattle.line.specs.Settings.{settingsFaults}
 use Rattle.course.specs.Course.{isAt, placeOf, misplaced, impossibleAfter}
-use Rattle.course.proofs.CourseLaws.{at-place, start-placed, variable-placed, grid-next, grid-room}
+use Rattle.course.proofs.CourseLaws.{at-place, start-placed, begins, variable-placed, grid-next, grid-room}
 use Rattle.writer.specs.declared.state.Rest.{Rest}
-use Rattle.writer.specs.declared.state.Rest.the-variants.{Whole, Part}
+use Rattle.writer.specs.declared.state.Rest.the-variants.{NoBlock, Part}
 use Rattle.writer.specs.declared.state.Writer.{Writer}
 use Rattle.writer.specs.declared.state.Answer.{Answer}
 use Rattle.writer.specs.declared.state.Answer.the-variants.{Refused, Done}
 use Rattle.writer.specs.declared.state.Laid.{Laid}
-use Rattle.writer.specs.declared.state.Laid.the-variants.{Not, Finished, Unfinished}
+use Rattle.writer.specs.declared.state.Laid.the-variants.{Refused as NotLaid, Finished, Unfinished}
 use Rattle.writer.specs.State.{most, isPart, laidOf, fresh, misshapen, impossible, endIn, moved, openState}
 use Rattle.writer.specs.Block.{wordsIn}
-use Rattle.writer.specs.Answers.{answerNumbers, laidNumbers, left, Added, added}
-use Rattle.writer.specs.Opening.{openBlocked, openFaults, openFault, opening}
-use Rattle.writer.specs.Adding.{illShaped, isOther, addFaults, addFault, todo, room, lay, adding}
+use Rattle.writer.specs.Answers.{answerNumbers, laidNumbers, Left, left, Added, added}
+use Rattle.writer.specs.Opening.{openFaults, openFault, opening}
+use Rattle.writer.specs.Adding.{illShaped, isOther, addFaults, addFault, todo, room, adding}
 use Rattle.writer.specs.Closing.{closeFaults, closeFault, closing}
 use Rattle.writer.proofs.BlockLaws.{words-variable, words-fixed, block-long, fixed-long}
 use Rattle.writer.proofs.Refusals.{Begun, begun, possible-by, can-open, CanAdd, can-add, can-close}
@@ -45,55 +44,38 @@ moved-begun w p r b x y z =
     record { course = record { number = c .number; numbered = c .numbered; range = c .range; clean = c .clean; placed = x; varied = y }; shaped = z }
 
 -- ---- opening: an unfinished block stays, with the same settings
-rest-of : (w : Writer) → impossible w ≡ false → misshapen (w .rest) ≡ false
+parts-of : (w : Writer) → impossible w ≡ false
+    → (impossibleAfter (w .system) (w .last) (w .settings) (w .place) (isPart (w .rest)) ≡ false) × (misshapen (w .rest) ≡ false)
 unfolding impossible
-rest-of w e = or-false (impossibleAfter (w .system) (w .last) (w .settings) (w .place) (isPart (w .rest))) (misshapen (w .rest)) e .1
-
-varied-by : (w : Writer) (t : Settings) (b c d : Bool) → isPart (w .rest) ≡ b → impossible w ≡ false → sameSettings t (w .settings) ≡ c → (b && (not c || d)) ≡ false
-    → (isPart (w .rest) && not (isVariable (t .block))) ≡ false
-varied-by w t false c d is e h z = ap (λ (x : Bool). x && not (isVariable (t .block))) is
-varied-by w t true false d is e h z = absurd (subst T z tt)
-varied-by w t true true d is e h z =
-    ap (λ (x : ℕ). isPart (w .rest) && not (isVariable x)) (same-block t (w .settings) h) ∙ begun w e (or-left (isPart (w .rest)) (isAt (w .place)) is) .course .varied
+parts-of w e = or-false _ (misshapen (w .rest)) e
 
 open-begun : (w : Writer) (n : ℕ) (t : Settings) (long : ℕ) → openFault w n t long ≡ 0 → Begun (openState w n t)
-unfolding openBlocked
 open-begun w n t long ok =
     let o = can-open w n t long ok in
+    let range = ap not (and-true (le-leb 1 n (o .one)) (le-leb n _ (o .last))) in
+    let kept = parts-of w (o .state) in
+    let part = isPart (w .rest) in
     record {
-      course =
-          record {
-            number = n;
-            numbered = refl;
-            range = ap not (and-true (le-leb 1 n (o .one)) (le-leb n _ (o .last)));
-            clean = ap not (eq-eqb _ _ (o .clean));
-            placed = start-placed (w .system) t (o .clean);
-            varied = varied-by w t (isPart (w .rest)) (sameSettings t (w .settings)) _ refl (o .state) refl (or-false (isAt (w .place)) _ (o .free) .1);
-          };
-      shaped = rest-of w (o .state);
+      course = begins (w .system) (w .last) (w .settings) t (w .place) (At 0) part part n (kept .0) range (o .clean) (start-placed (w .system) t (o .clean)) (λ e. (e, o .goes e .0));
+      shaped = kept .1;
     }
-
--- a call by its fault
-open-by : (w : Writer) (b : Bool) (n : ℕ) (s : Writer) (l line : List ℕ) → impossible w ≡ false → (b ≡ true → impossible s ≡ false)
-    → impossible (pick b (left Done s l) (left (Refused n) w line) .state) ≡ false
-unfolding pick
-open-by w true n s l line e h = h refl
-open-by w false n s l line e h = e
 
 pub open-possible : (w : Writer) (f v : Bool) (n : ℕ) (t : Settings) (line : List ℕ) → impossible w ≡ false → impossible (opening w f v n t line .state) ≡ false
 unfolding opening
 open-possible w f v n t line e =
-    open-by w (eqb (openFault w n t (length line)) 0) _ (openState w n t) _ line e (λ h. possible-by (openState w n t) (open-begun w n t (length line) (eqb-true _ _ h)))
+    pick-elim (λ (x : Left). impossible (x .state) ≡ false) (eqb (openFault w n t (length line)) 0)
+    (λ h. possible-by (openState w n t) (open-begun w n t (length line) (eqb-true _ _ h))) (λ h. e)
 
 -- ---- closing
 pub close-possible : (w : Writer) (line : List ℕ) → impossible w ≡ false → impossible (closing w line .state) ≡ false
 unfolding closing
 close-possible w line e =
-    open-by w (eqb (closeFault w (length line)) 0) _ (moved w Shut (w .rest)) _ line e
+    pick-elim (λ (x : Left). impossible (x .state) ≡ false) (eqb (closeFault w (length line)) 0)
     (λ h.
     let c = can-close w line (eqb-true _ _ h) in
     let b = begun w e (or-right (isPart (w .rest)) (isAt (w .place)) (c .begun)) in
     possible-by (moved w Shut (w .rest)) (moved-begun w Shut (w .rest) b refl (b .course .varied) (b .shaped)))
+    (λ h. e)
 
 -- ---- a fresh writer
 pub fresh-possible : (system mode : ℕ) → impossible (fresh system mode) ≡ false
@@ -127,14 +109,14 @@ fixed-by p block kind n o v e =
     eqb-true _ _ (not-false _ (or-false (not (eqb (n + 1) (sizeOf block))) _ b .0))
 
 laid-most : (r : Rest) (kind n : ℕ) → misshapen r ≡ false → isOther r kind n ≡ false → laidOf r ≤ n + 6
-laid-most Whole kind n e o = omega arith
+laid-most NoBlock kind n e o = omega arith
 laid-most (Part k m j) kind n e o =
     let a = or-false (ltb j 1) (ltb (m + 6) j) (or-false (ltb most m) _ e .1) in
     let b = eqb-true m n (both-true (eqb k kind) (eqb m n) (not-false _ o) .1) in
     omega (arith, ltb-false (m + 6) j (a .1), b)
 
-whole-by : (r : Rest) (v : Bool) → (isPart r && not v) ≡ false → v ≡ false → r ≡ Whole
-whole-by Whole v e h = refl
+whole-by : (r : Rest) (v : Bool) → (isPart r && not v) ≡ false → v ≡ false → r ≡ NoBlock
+whole-by NoBlock v e h = refl
 whole-by (Part k m j) true e h = absurd (subst T h tt)
 whole-by (Part k m j) false e h = absurd (subst T e tt)
 
@@ -142,13 +124,13 @@ whole-by (Part k m j) false e h = absurd (subst T e tt)
 part-range : (end p long n j k : ℕ) → p < end → long ≡ n + 7 - j → j ≤ n + 6 → k ≡ min (end - p) long → (k ≡ long → ⊥) → (1 ≤ j + k) × (j + k ≤ n + 6)
 part-range end p long n j k a b c d e = (omega arith, omega arith)
 
-rest-after : (b : Bool) (kind n j : ℕ) → n ≤ most → (b ≡ false → (1 ≤ j) × (j ≤ n + 6)) → misshapen (pick b Whole (Part kind n j)) ≡ false
+rest-after : (b : Bool) (kind n j : ℕ) → n ≤ most → (b ≡ false → (1 ≤ j) × (j ≤ n + 6)) → misshapen (pick b NoBlock (Part kind n j)) ≡ false
 unfolding pick
 rest-after true kind n j m h = refl
 rest-after false kind n j m h = false-or (le-ltb most n m) (false-or (le-ltb j 1 (h refl .0)) (le-ltb (n + 6) j (h refl .1)))
 
 varied-any : (r : Rest) (v : Bool) → v ≡ true → (isPart r && not v) ≡ false
-varied-any Whole v e = refl
+varied-any NoBlock v e = refl
 varied-any (Part k m j) v e = ap not e
 
 -- ---- the state after an accepted addition
@@ -163,7 +145,7 @@ module _ (w : Writer) (line : List ℕ) (kind : ℕ) (vs : List ℕ) (ok : addFa
   k = room w (todo w kind vs)
 
   abbrev rest′ : Rest
-  rest′ = pick (eqb (room w (todo w kind vs)) (length (todo w kind vs))) Whole (Part kind (length vs) (laidOf (w .rest) + room w (todo w kind vs)))
+  rest′ = pick (eqb (room w (todo w kind vs)) (length (todo w kind vs))) NoBlock (Part kind (length vs) (laidOf (w .rest) + room w (todo w kind vs)))
 
   adds : CanAdd w line kind vs
   adds = can-add w line kind vs ok
@@ -194,7 +176,7 @@ module _ (w : Writer) (line : List ℕ) (kind : ℕ) (vs : List ℕ) (ok : addFa
       (λ e. part-laid v (eqb-false _ _ e)))
 
   -- a fixed line: the block is laid whole, up to the next place
-  pub fixed-whole : isVariable (w .settings .block) ≡ false → w .rest ≡ Whole
+  pub fixed-whole : isVariable (w .settings .block) ≡ false → w .rest ≡ NoBlock
   fixed-whole v = whole-by (w .rest) (isVariable block) (at-adding .course .varied) v
 
   fixed-size : isVariable (w .settings .block) ≡ false → length ws ≡ sizeOf block
@@ -222,7 +204,7 @@ module _ (w : Writer) (line : List ℕ) (kind : ℕ) (vs : List ℕ) (ok : addFa
       let all = fixed-fits v in
       let one = one-mul (sizeOf block) in
       let next : placeOf (w .place) + k ≡ placeOf (w .place) + 1 * sizeOf block = ap (λ (x : ℕ). placeOf (w .place) + x) (all ∙ fixed-size v ∙ sym one) in
-      let whole : rest′ ≡ Whole = pick-true _ _ (eq-eqb _ _ all) in
+      let whole : rest′ ≡ NoBlock = pick-true _ _ (eq-eqb _ _ all) in
       moved-begun w _ rest′ at-adding
       (subst (λ (x : ℕ). misplaced (systemOf (w .system) .payload) block (w .settings .flag) (At x) ≡ false) (sym next)
       (grid-next (systemOf (w .system) .payload) block (w .settings .flag) (placeOf (w .place)) 1 v at-grid
@@ -237,16 +219,11 @@ module _ (w : Writer) (line : List ℕ) (kind : ℕ) (vs : List ℕ) (ok : addFa
       go true v = variable-after v
       go false v = fixed-after v
 
-add-by : (w : Writer) (b : Bool) (n : ℕ) (x : Added) (line : List ℕ) → impossible w ≡ false → (b ≡ true → impossible (x .state) ≡ false)
-    → impossible (pick b x (added (Not n) w line) .state) ≡ false
-unfolding pick
-add-by w true n x line e h = h refl
-add-by w false n x line e h = e
-
 pub add-possible : (w : Writer) (line : List ℕ) (kind : ℕ) (vs : List ℕ) → impossible w ≡ false → impossible (adding w line kind vs .state) ≡ false
 unfolding adding
 add-possible w line kind vs e =
-    add-by w (eqb (addFault w (length line) kind vs) 0) _ (lay w line kind vs) line e (λ h. possible-by _ (add-begun w line kind vs (eqb-true _ _ h)))
+    pick-elim (λ (x : Added). impossible (x .state) ≡ false) (eqb (addFault w (length line) kind vs) 0)
+    (λ h. possible-by _ (add-begun w line kind vs (eqb-true _ _ h))) (λ h. e)
 
 -- ---- any calls, from a fresh writer on
 pub data Reached (system mode : ℕ) : Writer → Type 0 where
@@ -264,7 +241,7 @@ reached-possible system mode _ (shuts {w} line r) = close-possible w line (reach
 -- so answer 2 is given to none of them
 pub record Never2 (w : Writer) : Type 0 where
   pub by-opening : (f v : Bool) (n : ℕ) (t : Settings) (line : List ℕ) → opening w f v n t line .answer ≡ Refused 2 → ⊥
-  pub by-adding : (line : List ℕ) (kind : ℕ) (vs : List ℕ) → adding w line kind vs .answer ≡ Not 2 → ⊥
+  pub by-adding : (line : List ℕ) (kind : ℕ) (vs : List ℕ) → adding w line kind vs .answer ≡ NotLaid 2 → ⊥
   pub by-closing : (line : List ℕ) → closing w line .answer ≡ Refused 2 → ⊥
 
 refused-is : (b : Bool) (s w : Writer) (l line : List ℕ) (n k : ℕ) → pick b (left Done s l) (left (Refused n) w line) .answer ≡ Refused k → n ≡ k
@@ -272,7 +249,7 @@ unfolding pick
 refused-is true s w l line n k e = absurd (omega (arith, ap (λ (a : Answer). length (answerNumbers a)) e))
 refused-is false s w l line n k e = ap (λ (a : Answer). getD (answerNumbers a) 0 0) e
 
-not-is : (b f : Bool) (s w : Writer) (l line : List ℕ) (n k : ℕ) → pick b (added (pick f Finished Unfinished) s l) (added (Not n) w line) .answer ≡ Not k → n ≡ k
+not-is : (b f : Bool) (s w : Writer) (l line : List ℕ) (n k : ℕ) → pick b (added (pick f Finished Unfinished) s l) (added (NotLaid n) w line) .answer ≡ NotLaid k → n ≡ k
 unfolding pick
 not-is true true s w l line n k e = absurd (omega (arith, ap (λ (a : Laid). length (laidNumbers a)) e))
 not-is true false s w l line n k e = absurd (omega (arith, ap (λ (a : Laid). length (laidNumbers a)) e))

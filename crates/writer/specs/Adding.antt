@@ -17,9 +17,9 @@ use Rattle.line.specs.Layout.{payloadAt}
 use Rattle.line.specs.Check.{fitsLength}
 use Rattle.course.specs.Course.{isAt, placeOf}
 use Rattle.writer.specs.declared.state.Rest.{Rest}
-use Rattle.writer.specs.declared.state.Rest.the-variants.{Whole, Part}
+use Rattle.writer.specs.declared.state.Rest.the-variants.{NoBlock, Part}
 use Rattle.writer.specs.declared.state.Writer.{Writer}
-use Rattle.writer.specs.declared.state.Laid.the-variants.{Not, Finished, Unfinished}
+use Rattle.writer.specs.declared.state.Laid.the-variants.{Refused, Finished, Unfinished}
 use Rattle.writer.specs.State.{most, laidOf, impossible, endIn, moved}
 use Rattle.writer.specs.Block.{wordsIn}
 use Rattle.writer.specs.Answers.{Added, added}
@@ -40,7 +40,7 @@ isFull end (At p) = leb end p
 
 -- an unfinished block, and another type or length lent
 abbrev pub isOther : Rest → ℕ → ℕ → Bool
-isOther Whole kind n = false
+isOther NoBlock kind n = false
 isOther (Part k m j) kind n = not (eqb k kind && eqb m n)
 
 -- 1; 2; 17; 18; 19; 20: none open, or unfinished block and a changed type or length
@@ -68,7 +68,7 @@ room w ws = min (endIn w - placeOf (w .place)) (length ws)
 abbrev pub laying : Writer → List ℕ → ℕ → ℕ → List ℕ → ℕ → Added
 laying w line kind n ws k =
     added (pick (eqb k (length ws)) Finished Unfinished)
-    (moved w (At (placeOf (w .place) + k)) (pick (eqb k (length ws)) Whole (Part kind n (laidOf (w .rest) + k))))
+    (moved w (At (placeOf (w .place) + k)) (pick (eqb k (length ws)) NoBlock (Part kind n (laidOf (w .rest) + k))))
     (paste line (payloadAt (systemOf (w .system)) + placeOf (w .place)) ws k)
 
 abbrev pub lay : Writer → List ℕ → ℕ → List ℕ → Added
@@ -78,4 +78,4 @@ lay w line kind vs = let ws = todo w kind vs in laying w line kind (length vs) w
 unfoldable pub adding : Writer → List ℕ → ℕ → List ℕ → Added
 adding w line kind vs =
     let fault = addFault w (length line) kind vs in
-    pick (eqb fault 0) (lay w line kind vs) (added (Not fault) w line)
+    pick (eqb fault 0) (lay w line kind vs) (added (Refused fault) w line)

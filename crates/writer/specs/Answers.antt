@@ -6,7 +6,7 @@ use Rattle.writer.specs.declared.state.Writer.{Writer}
 use Rattle.writer.specs.declared.state.Answer.{Answer}
 use Rattle.writer.specs.declared.state.Answer.the-variants.{Refused, Done}
 use Rattle.writer.specs.declared.state.Laid.{Laid}
-use Rattle.writer.specs.declared.state.Laid.the-variants.{Not, Finished, Unfinished}
+use Rattle.writer.specs.declared.state.Laid.the-variants.{Refused as NotLaid, Finished, Unfinished}
 
 -- opening and closing: refused with 01's number, or done
 abbrev pub answerNumbers : Answer → List ℕ
@@ -15,7 +15,7 @@ answerNumbers Done = []
 
 -- adding: refused with 01's number; finished, 1; or unfinished, 0
 abbrev pub laidNumbers : Laid → List ℕ
-laidNumbers (Not n) = n ∷ []
+laidNumbers (NotLaid n) = n ∷ []
 laidNumbers Finished = 0 ∷ 1 ∷ []
 laidNumbers Unfinished = 0 ∷ 0 ∷ []
 

@@ -11,7 +11,7 @@ use Rattle.line.specs.Settings.{noSettings}
 use Rattle.line.specs.Systems.{systemOf}
 use Rattle.course.specs.Course.{impossibleAfter, blocksEnd}
 use Rattle.writer.specs.declared.state.Rest.{Rest}
-use Rattle.writer.specs.declared.state.Rest.the-variants.{Whole, Part}
+use Rattle.writer.specs.declared.state.Rest.the-variants.{NoBlock, Part}
 use Rattle.writer.specs.declared.state.Writer.{Writer}
 
 -- n is at most 16,384
@@ -20,20 +20,20 @@ most = 16384
 
 -- an unfinished block, and the words of it that are laid
 abbrev pub isPart : Rest → Bool
-isPart Whole = false
+isPart NoBlock = false
 isPart (Part k n j) = true
 
 abbrev pub laidOf : Rest → ℕ
-laidOf Whole = 0
+laidOf NoBlock = 0
 laidOf (Part k n j) = j
 
 -- Fresh: no number, line or block, settings zero.
 abbrev pub fresh : ℕ → ℕ → Writer
-fresh system mode = record { system = system; mode = mode; last = Unknown; settings = noSettings; place = Shut; rest = Whole }
+fresh system mode = record { system = system; mode = mode; last = Unknown; settings = noSettings; place = Shut; rest = NoBlock }
 
 -- an unfinished block has n at most 16,384, and 1 to n+6 words laid
 abbrev pub misshapen : Rest → Bool
-misshapen Whole = false
+misshapen NoBlock = false
 misshapen (Part k n j) = ltb most n || (ltb j 1 || ltb (n + 6) j)
 
 -- the impossible rule, of lines and of the unfinished block

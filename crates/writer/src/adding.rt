@@ -73,7 +73,7 @@ fn is_other(rest: Rest, kind: u16, n: usize) -> bool
     ensures { λ r. ⌜ r ≡ isOther rest kind n ⌝ }
 {
     match rest {
-        Rest::Whole => false,
+        Rest::NoBlock => false,
         Rest::Part {
             kind: k,
             count,
@@ -113,10 +113,10 @@ fn add_fault(w: Writer, long: usize, kind: u16, values: &[u16]) -> u8
 // What is unfinished after k of the left words.
 fn rest_after(left: usize, k: usize, kind: u16, n: usize, laid: usize) -> Rest
     requires { ⌜ (kind < 256) × (n ≤ 16384) × (laid + k < 65536) ⌝ }
-    ensures { λ r. ⌜ r ≡ pick (eqb k left) Rest.Whole (Rest.Part kind n (laid + k)) ⌝ }
+    ensures { λ r. ⌜ r ≡ pick (eqb k left) Rest.NoBlock (Rest.Part kind n (laid + k)) ⌝ }
 {
     if k == left {
-        return Rest::Whole;
+        return Rest::NoBlock;
     }
     Rest::Part {
         kind: kind as u8,
@@ -150,7 +150,7 @@ fn lay_place(w: Writer, kind: u16, values: &[u16], line: &mut [u16]) -> Addition
     block::lay_fixed(w.mode, kind, values, &mut line[a..e]);
     Addition {
         answer: Laid::Finished,
-        state: state::moved(w, Place::At(place + k), Rest::Whole),
+        state: state::moved(w, Place::At(place + k), Rest::NoBlock),
     }
 }
 
@@ -165,7 +165,7 @@ fn lay_part(w: Writer, kind: u16, values: &[u16], line: &mut [u16]) -> Addition
     let place = course::place_of(at);
     let laid = state::laid_of(rest);
     let left = values.len() + 7 - laid;
-    let k = lists::at_most(state::end_in(w) - place, left);
+    let k = lists::smaller_of(state::end_in(w) - place, left);
     let a = s.length - s.payload + place;
     let e = a + k;
     block::lay_words(w.mode, kind, values, laid, &mut line[a..e]);
@@ -184,7 +184,7 @@ pub fn add_block(w: Writer, kind: u16, values: &[u16], line: &mut [u16]) -> Addi
     let fault = add_fault(w, line.len(), kind, values);
     if fault != 0 {
         return Addition {
-            answer: Laid::Not(fault),
+            answer: Laid::Refused(fault),
             state: w,
         };
     }

@@ -37,11 +37,11 @@ fn lay_rest(mode: u8, values: &[u16], j: usize, out: &mut [u16])
     ensures { λ _. ⌜ now (out .exit) ≡ take (length (now (out .entry))) (drop j (map (wordOf mode) (now (values .entry)) ++ (endCode ∷ []))) ⌝ }
 {
     let n = values.len();
-    let a = lists::at_most(out.len(), lists::less(n, j));
-    let b = lists::at_most(j, n);
+    let a = lists::smaller_of(out.len(), lists::minus_or_zero(n, j));
+    let b = lists::smaller_of(j, n);
     let e = b + a;
     fill::put_values(mode, &values[b..e], &mut out[..a]);
-    let i = lists::less(j, n);
+    let i = lists::minus_or_zero(j, n);
     fill::copy_from(&[words::class::END_CODE], i, &mut out[a..]);
 }
 
@@ -50,9 +50,9 @@ pub(crate) fn lay_words(mode: u8, kind: u16, values: &[u16], j: usize, out: &mut
     requires { ⌜ j + length (now out) ≤ length (now values) + 7 ⌝ }
     ensures { λ _. ⌜ now (out .exit) ≡ take (length (now (out .entry))) (drop j (blockWords mode kind (now (values .entry)))) ⌝ }
 {
-    let a = lists::at_most(out.len(), lists::less(6, j));
-    lay_head(kind, values.len(), lists::at_most(j, 6), &mut out[..a]);
-    lay_rest(mode, values, lists::less(j, 6), &mut out[a..]);
+    let a = lists::smaller_of(out.len(), lists::minus_or_zero(6, j));
+    lay_head(kind, values.len(), lists::smaller_of(j, 6), &mut out[..a]);
+    lay_rest(mode, values, lists::minus_or_zero(j, 6), &mut out[a..]);
 }
 
 // A place of a fixed line: the type word and the values.

@@ -8,7 +8,7 @@ ghost use Rattle.writer.specs.State.{isPart, laidOf, fresh, misshapen, i
 
 // An unfinished block: its type, n and the words laid (1 to n+6).
 pub enum Rest {
-    Whole,
+    NoBlock,
     Part { kind: u8, count: u16, laid: u16 },
 }
 
@@ -29,7 +29,7 @@ pub enum Answer {
 
 // What adding answers.
 pub enum Laid {
-    Not(u8),
+    Refused(u8),
     Finished,
     Unfinished,
 }
@@ -45,7 +45,7 @@ pub fn fresh_writer(system: u8, mode: u8) -> Writer
         last: Last::Unknown,
         settings: none,
         place: Place::Shut,
-        rest: Rest::Whole,
+        rest: Rest::NoBlock,
     }
 }
 
@@ -85,7 +85,7 @@ pub fn is_part(rest: Rest) -> bool
     ensures { λ r. ⌜ r ≡ isPart rest ⌝ }
 {
     match rest {
-        Rest::Whole => false,
+        Rest::NoBlock => false,
         Rest::Part {
             kind: _,
             count: _,
@@ -99,7 +99,7 @@ pub fn laid_of(rest: Rest) -> usize
     ensures { λ r. ⌜ r ≡ laidOf rest ⌝ }
 {
     match rest {
-        Rest::Whole => 0,
+        Rest::NoBlock => 0,
         Rest::Part {
             kind: _,
             count: _,
@@ -113,7 +113,7 @@ pub(crate) fn is_misshapen(rest: Rest) -> bool
     ensures { λ r. ⌜ r ≡ misshapen rest ⌝ }
 {
     match rest {
-        Rest::Whole => false,
+        Rest::NoBlock => false,
         Rest::Part {
             kind: _,
             count,

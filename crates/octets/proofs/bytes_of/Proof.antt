@@ -18,11 +18,11 @@ Inv-loop words out₀ n i₀ out i = (i ≤ n) × (n ≡ min (length words) (len
 abbrev μ-loop : tie.MeasureT-loop
 μ-loop words out₀ n i₀ out i = n - i
 
-at-most-requires : tie.Need-at-most-requires Inv-loop μ-loop
-at-most-requires c κs = search needs
+smaller-of-requires : tie.Need-smaller-of-requires Inv-loop μ-loop
+smaller-of-requires c κs = search needs
 
 loop-holds : tie.Need-loop-holds Inv-loop μ-loop
-loop-holds c = let a = c .before .before .before .args in (search needs, c .at-most .ensures, refl, paste-zero (now (a .out)) 0 (bytesOf (now (a .words))))
+loop-holds c = let a = c .before .before .before .args in (search needs, c .smaller-of .ensures, refl, paste-zero (now (a .out)) 0 (bytesOf (now (a .words))))
 
 mul-low : tie.Need-mul-low Inv-loop μ-loop
 mul-low c = search needs
@@ -98,7 +98,7 @@ bytes-of-spec =
     (tie.spec
     Inv-loop
     μ-loop
-    at-most-requires
+    smaller-of-requires
     loop-holds
     mul-low
     shared-slice-read-low

@@ -20,11 +20,11 @@ Inv-loop bytes out₀ n i₀ out i = (i ≤ n) × (n ≡ min (length bytes / 2) 
 abbrev μ-loop : tie.MeasureT-loop
 μ-loop bytes out₀ n i₀ out i = n - i
 
-at-most-requires : tie.Need-at-most-requires Inv-loop μ-loop
-at-most-requires c κs = search needs
+smaller-of-requires : tie.Need-smaller-of-requires Inv-loop μ-loop
+smaller-of-requires c κs = search needs
 
 loop-holds : tie.Need-loop-holds Inv-loop μ-loop
-loop-holds c = let a = c .before .before .before .args in (search needs, c .at-most .ensures, refl, paste-zero (now (a .out)) 0 (wordsOf (now (a .bytes))))
+loop-holds c = let a = c .before .before .before .args in (search needs, c .smaller-of .ensures, refl, paste-zero (now (a .out)) 0 (wordsOf (now (a .bytes))))
 
 mul-joined : tie.Need-mul-joined Inv-loop μ-loop
 mul-joined c = search needs
@@ -89,7 +89,7 @@ words-of-spec =
     (tie.spec
     Inv-loop
     μ-loop
-    at-most-requires
+    smaller-of-requires
     loop-holds
     mul-joined
     shared-slice-read-joined

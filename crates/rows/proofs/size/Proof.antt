@@ -19,7 +19,7 @@ neg-fits (pos zero) f = record { sfits = omega arith }
 neg-fits (pos (suc n)) f = record { sfits = omega (arith, f .sfits) }
 neg-fits (negsuc n) f = record { sfits = omega (arith, f .sfits) }
 
--- 0 less the number, in 64 bits
+-- 0 minus-or-zero the number, in 64 bits
 turned : (z : ℤ) → SFits w32 z → pos 0 -ℤ toZ w64 (ofZ w64 z) ≡ negℤ z
 turned z f = ap (λ (y : ℤ). pos 0 -ℤ y) (toZ-ofZ (sfits-widen tt f)) ∙ +ℤ-idl (negℤ z)
 

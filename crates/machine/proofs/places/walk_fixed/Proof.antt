@@ -13,10 +13,10 @@ use Rattle.machine.proofs.places.walk_fixed.Statement.{statement}
 use Rattle.machine.proofs.places.walk_fixed.Tie as tie
 
 -- the test is the definition's
-asked : (l : tie.After-less) →
+asked : (l : tie.After-minus-or-zero) →
     let a = l .before .before .before .args in
-    (eqb (a .size) 0 || ltb (length (a .room .now)) (l .less .result)) ≡ (eqb (a .size) 0 || ltb (length (a .room .now)) (a .size - 1))
-asked l = let a = l .before .before .before .args in ap (λ (n : ℕ). eqb (a .size) 0 || ltb (length (a .room .now)) n) (l .less .ensures)
+    (eqb (a .size) 0 || ltb (length (a .room .now)) (l .minus-or-zero .result)) ≡ (eqb (a .size) 0 || ltb (length (a .room .now)) (a .size - 1))
+asked l = let a = l .before .before .before .args in ap (λ (n : ℕ). eqb (a .size) 0 || ltb (length (a .room .now)) n) (l .minus-or-zero .ensures)
 
 -- past it, a place has a word, and the room is as long as its values; the walk is over whole places
 fitting : (o : tie.Else1) → let a = o .before .before .before .before .args in (1 ≤ a .size) × (a .size - 1 ≤ length (a .room .now))
@@ -30,8 +30,8 @@ whole o =
     let a = o .before .before .before .before .args in
     sym (fixed-walk (a .mode) (a .phase) (a .size) (a .words .now) (a .room .now) (fitting o .0) (fitting o .1))
 
-less-requires : tie.Need-less-requires
-less-requires c κs = search needs
+minus-or-zero-requires : tie.Need-minus-or-zero-requires
+minus-or-zero-requires c κs = search needs
 
 returns : tie.Need-returns
 returns c = let a = c .before .before .before .before .args in
@@ -109,7 +109,7 @@ pub walk-fixed-spec : {M : Type 1} → statement M
 walk-fixed-spec =
     tie.close
     (tie.spec
-    less-requires
+    minus-or-zero-requires
     returns
     walk-all-requires
     same-length

@@ -7,19 +7,19 @@ use lib.ListN.{length, take}
 use lib.Seq.{paste-zero}
 use Rattle.words.specs.Modes.{valueOf}
 use Rattle.machine.specs.declared.phase.Phase.the-variants.{Data}
-use Rattle.machine.specs.Runs.{runOf, endOf, takenBy}
+use Rattle.machine.specs.Runs.{runOf, limitOf, takenBy}
 use Rattle.machine.proofs.RunLaws.{taken-within, data-fits, front-long, same-long, ran-mid}
 use borrow.Author.Needs.{needs}
 use Rattle.machine.proofs.runs.collect_run.Statement.{statement}
 use Rattle.machine.proofs.runs.collect_run.Tie as tie
 
 -- how many words are looked at, and how many are taken
-most-is : (a : tie.After-at-most) →
+most-is : (a : tie.After-smaller-of) →
     let g = a .before .before .before .before .before .args in
-    a .at-most .result ≡ min (length (g .words .now)) (endOf (length (g .room .now)) (g .n) - g .m)
+    a .smaller-of .result ≡ min (length (g .words .now)) (limitOf (length (g .room .now)) (g .n) - g .m)
 most-is a =
     let g = a .before .before .before .before .before .args in
-    a .at-most .ensures ∙ ap (min (length (g .words .now))) (a .before .less .ensures ∙ ap (λ (x : ℕ). x - g .m) (a .before .before .end-of .ensures))
+    a .smaller-of .ensures ∙ ap (min (length (g .words .now))) (a .before .minus-or-zero .ensures ∙ ap (λ (x : ℕ). x - g .m) (a .before .before .limit-of .ensures))
 
 found : (r : tie.After-run-of) →
     let g = r .before .before .before .before .before .before .before .args in
@@ -42,14 +42,14 @@ fits x =
     let g = x .before .before .before .before .before .before .before .before .args in
     data-fits (g .kind) (g .n) (g .m) (length (g .room .now)) (g .words .now) (x .before .run-of .result) (found (x .before)) (x .if1 .left)
 
-end-of-requires : tie.Need-end-of-requires
-end-of-requires c κs = search needs
+limit-of-requires : tie.Need-limit-of-requires
+limit-of-requires c κs = search needs
 
-less-requires : tie.Need-less-requires
-less-requires c κs = search needs
+minus-or-zero-requires : tie.Need-minus-or-zero-requires
+minus-or-zero-requires c κs = search needs
 
-at-most-requires : tie.Need-at-most-requires
-at-most-requires c κs = search needs
+smaller-of-requires : tie.Need-smaller-of-requires
+smaller-of-requires c κs = search needs
 
 slice-aggregate-run-of : tie.Need-slice-aggregate-run-of
 slice-aggregate-run-of c = front-long _ _ (omega (arith, most-is (c .before)))
@@ -94,9 +94,9 @@ pub collect-run-spec : {M : Type 1} → statement M
 collect-run-spec =
     tie.close
     (tie.spec
-    end-of-requires
-    less-requires
-    at-most-requires
+    limit-of-requires
+    minus-or-zero-requires
+    smaller-of-requires
     slice-aggregate-run-of
     run-of-requires
     returns

@@ -1,24 +1,22 @@
 -- `machine::runs::copy_values` meets its contract. Assumes nothing.
-use mathlib.Core.Path.{_≡_, refl, sym, _∙_}
 use mathlib.Core.List.{map}
-use Prim.Native.Nat.{_-_, _<_}
+use Prim.Native.Nat.{_-_}
 use native.Mathlib.Omega.{arith}
-use lib.ListN.{length, take, length-map, length-set}
-use Rattle.lists.proofs.Lists.{getD-map-in}
-use Rattle.lists.proofs.Loops.{copy-next, copy-end}
+use lib.ListN.{length}
+use Rattle.lists.proofs.Loops.{Filling, map-start, map-turn, map-end}
 use Rattle.words.specs.Modes.{valueOf}
 use borrow.Author.Needs.{needs}
 use Rattle.machine.proofs.runs.copy_values.Statement.{statement}
 use Rattle.machine.proofs.runs.copy_values.Tie as tie
 
 abbrev Inv-loop : tie.InvT-loop
-Inv-loop mode words out₀ i₀ out i = (take i out ≡ take i (map (valueOf mode) words)) × (length out ≡ length words)
+Inv-loop mode words out₀ i₀ out i = Filling (map (valueOf mode) words) out₀ out i
 
 abbrev μ-loop : tie.MeasureT-loop
 μ-loop mode words out₀ i₀ out i = length words - i
 
 loop-holds : tie.Need-loop-holds Inv-loop μ-loop
-loop-holds c = (refl, c .before .before .pre)
+loop-holds c = let a = c .before .before .args in map-start (valueOf (a .mode)) (a .words .now) _ (c .before .before .pre)
 
 mul-value-of : tie.Need-mul-value-of Inv-loop μ-loop
 mul-value-of c = search needs
@@ -33,7 +31,7 @@ mul-out : tie.Need-mul-out Inv-loop μ-loop
 mul-out c = search needs
 
 slice-write-out : tie.Need-slice-write-out Inv-loop μ-loop
-slice-write-out c = search needs
+slice-write-out c = omega (arith, c .before .before .before .loop .inv .same, c .before .before .before .before .before .before .pre)
 
 add-i : tie.Need-add-i Inv-loop μ-loop
 add-i c = search needs
@@ -45,24 +43,13 @@ loop-again : tie.Need-loop-again Inv-loop μ-loop
 loop-again c =
     let t = c .before .before in
     let a = t .before .before .before .before .args in
-    let f = valueOf (a .mode) in
-    let k = t .loop-test .taken in
-    let l = t .before .loop in
-    let inv = l .inv in
-    let in-out : l .i < length (l .out) = omega (arith, inv .1, k) in (
-      copy-next (l .i) (c .value-of .result) (l .out) (map f (a .words .now)) in-out (rw (length-map (a .words .now) f) k)
-          (c .value-of .ensures ∙ sym (getD-map-in f (a .words .now) (l .i) k)) (inv .0),
-      length-set (l .out) (l .i) (c .value-of .result) ∙ inv .1,
-    )
+    map-turn (valueOf (a .mode)) (a .words .now) _ _ _ _ (t .before .loop .inv) (t .loop-test .taken) (c .value-of .ensures)
 
 same-length : tie.Need-same-length Inv-loop μ-loop
-same-length c = c .before .loop .inv .1 ∙ sym (c .before .before .before .before .pre)
+same-length c = c .before .loop .inv .same
 
 returns : tie.Need-returns Inv-loop μ-loop
-returns c =
-    let l = c .before .loop in
-    let a = c .before .before .before .before .args in
-    copy-end (l .i) (l .out) _ (omega (arith, l .inv .1, c .loop-test .left)) (rw (length-map (a .words .now) (valueOf (a .mode))) (c .loop-test .left)) (l .inv .0)
+returns c = let a = c .before .before .before .before .args in map-end (valueOf (a .mode)) (a .words .now) _ _ _ (c .before .loop .inv) (c .loop-test .left)
 
 pub copy-values-spec : {M : Type 1} → statement M
 copy-values-spec =

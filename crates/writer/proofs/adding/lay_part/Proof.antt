@@ -16,12 +16,12 @@ accepted : (s : tie.After-system-of) → let g = s .before .before .before .args
 accepted s = let g = s .before .before .before .args in can-add (g .w) (g .line .now) (g .kind) (g .values .now) (s .before .before .before .pre .0)
 
 -- the sizes once the number of words is known
-found : (y : tie.After-at-most) →
+found : (y : tie.After-smaller-of) →
     let d = y .before .before in
     let q = d .before in
     let s = q .before in
     let g = s .before .before .before .args in
-    Found (g .w) (g .line .now) (g .kind) (g .values .now) (q .place-of .result) (d .laid-of .result) (length (g .values .now) + 7 - d .laid-of .result) (y .at-most .result)
+    Found (g .w) (g .line .now) (g .kind) (g .values .now) (q .place-of .result) (d .laid-of .result) (length (g .values .now) + 7 - d .laid-of .result) (y .smaller-of .result)
     (s .system-of .result .length - s .system-of .result .payload + q .place-of .result)
 found y =
     let d = y .before .before in
@@ -36,7 +36,7 @@ found y =
       place = q .place-of .ensures;
       laid = d .laid-of .ensures;
       left = ap (λ (x : ℕ). x - j) (sym (count-variable _ n (t .pre .1)));
-      now = y .at-most .ensures ∙ ap (λ (x : ℕ). min (x - p) (n + 7 - j)) (y .before .end-in .ensures);
+      now = y .smaller-of .ensures ∙ ap (λ (x : ℕ). min (x - p) (n + 7 - j)) (y .before .end-in .ensures);
       index = ap (λ (x : System). x .length - x .payload + p) (s .system-of .ensures);
     }
 
@@ -61,11 +61,11 @@ sub-left c =
 end-in-requires : tie.Need-end-in-requires
 end-in-requires c κs = search needs
 
-sub-at-most : tie.Need-sub-at-most
-sub-at-most c = omega (arith, accepted (c .before .before .before) .room, c .end-in .ensures, c .before .before .place-of .ensures)
+sub-smaller-of : tie.Need-sub-smaller-of
+sub-smaller-of c = omega (arith, accepted (c .before .before .before) .room, c .end-in .ensures, c .before .before .place-of .ensures)
 
-at-most-requires : tie.Need-at-most-requires
-at-most-requires c κs = search needs
+smaller-of-requires : tie.Need-smaller-of-requires
+smaller-of-requires c κs = search needs
 
 sub-a : tie.Need-sub-a
 sub-a c =
@@ -99,7 +99,7 @@ lay-words-requires c κs =
     let s = q .before in
     let t = s .before .before .before in
     let a = s .system-of .result .length - s .system-of .result .payload + q .place-of .result in
-    omega (arith, sizes (found y) .laid, count-variable (t .args .w .settings .block) (length (t .args .values .now)) (t .pre .1), part-most (t .args .line .now) a (y .at-most .result))
+    omega (arith, sizes (found y) .laid, count-variable (t .args .w .settings .block) (length (t .args .values .now)) (t .pre .1), part-most (t .args .line .now) a (y .smaller-of .result))
 
 rest-after-requires : tie.Need-rest-after-requires
 rest-after-requires c κs = let z = sizes (found (c .before .before .before .before .before)) in (z .byte, z .number, omega (arith, z .laid, z .few))
@@ -133,8 +133,8 @@ lay-part-spec =
     add-left
     sub-left
     end-in-requires
-    sub-at-most
-    at-most-requires
+    sub-smaller-of
+    smaller-of-requires
     sub-a
     add-a
     add-e

@@ -11,17 +11,17 @@ use Rattle.writer.proofs.block.lay_rest.Statement.{statement}
 use Rattle.writer.proofs.block.lay_rest.Tie as tie
 
 -- how many values are laid
-some : (m : tie.After-at-most) → let a = m .before .before .before .before .args in m .at-most .result ≡ min (length (a .out .now)) (length (a .values .now) - a .j)
-some m = let a = m .before .before .before .before .args in m .at-most .ensures ∙ ap (min (length (a .out .now))) (m .before .less .ensures)
+some : (m : tie.After-smaller-of) → let a = m .before .before .before .before .args in m .smaller-of .result ≡ min (length (a .out .now)) (length (a .values .now) - a .j)
+some m = let a = m .before .before .before .before .args in m .smaller-of .ensures ∙ ap (min (length (a .out .now))) (m .before .minus-or-zero .ensures)
 
-less-requires : tie.Need-less-requires
-less-requires c κs = search needs
+minus-or-zero-requires : tie.Need-minus-or-zero-requires
+minus-or-zero-requires c κs = search needs
 
-at-most-requires : tie.Need-at-most-requires
-at-most-requires c κs = search needs
+smaller-of-requires : tie.Need-smaller-of-requires
+smaller-of-requires c κs = search needs
 
-at-most-requires-2 : tie.Need-at-most-requires-2
-at-most-requires-2 c κs = search needs
+smaller-of-requires-2 : tie.Need-smaller-of-requires-2
+smaller-of-requires-2 c κs = search needs
 
 add-e : tie.Need-add-e
 add-e c = search needs
@@ -45,18 +45,18 @@ slice-aggregate-put-values : tie.Need-slice-aggregate-put-values
 slice-aggregate-put-values c =
     let m = c .before .before .before in
     let a = m .before .before .before .before .args in
-    sym (front-long (length (a .values .now)) (a .j) (m .at-most .result) (a .out .now) (some m))
+    sym (front-long (length (a .values .now)) (a .j) (m .smaller-of .result) (a .out .now) (some m))
 
 put-values-requires : tie.Need-put-values-requires
 put-values-requires c κs =
     let q = c .before .before in
     let m = q .before in
     let a = m .before .before .before .before .args in
-    part-long (a .j) (q .at-most2 .result) (m .at-most .result) (a .out .now) (a .values .now)
-    (some m) (q .at-most2 .ensures)
+    part-long (a .j) (q .smaller-of2 .result) (m .smaller-of .result) (a .out .now) (a .values .now)
+    (some m) (q .smaller-of2 .ensures)
 
-less-requires-2 : tie.Need-less-requires-2
-less-requires-2 c κs = search needs
+minus-or-zero-requires-2 : tie.Need-minus-or-zero-requires-2
+minus-or-zero-requires-2 c κs = search needs
 
 slice-aggregate-copy-from : tie.Need-slice-aggregate-copy-from
 slice-aggregate-copy-from c = search needs
@@ -81,9 +81,9 @@ copy-from-requires c κs =
     let a = m .before .before .before .before .args in
     let f = wordOf (a .mode) in
     let v = a .values .now in
-    let k = m .at-most .result in
-    let is = p .put-values .ensures ∙ part-map f (q .at-most2 .result) k v ∙ ap (λ (i : ℕ). take k (drop i (map f v))) (q .at-most2 .ensures) in
-    second-in (a .j) (length v) k (map f v) (endCode ∷ []) (a .out .now) _ (length-map v f) (some m) is _ _ (c .before .before .less2 .ensures) (m .before .before .before .before .pre)
+    let k = m .smaller-of .result in
+    let is = p .put-values .ensures ∙ part-map f (q .smaller-of2 .result) k v ∙ ap (λ (i : ℕ). take k (drop i (map f v))) (q .smaller-of2 .ensures) in
+    second-in (a .j) (length v) k (map f v) (endCode ∷ []) (a .out .now) _ (length-map v f) (some m) is _ _ (c .before .before .minus-or-zero2 .ensures) (m .before .before .before .before .pre)
 
 same-length : tie.Need-same-length
 same-length c = search needs
@@ -96,17 +96,17 @@ returns c =
     let a = m .before .before .before .before .args in
     let f = wordOf (a .mode) in
     let v = a .values .now in
-    let k = m .at-most .result in
-    let is = p .put-values .ensures ∙ part-map f (q .at-most2 .result) k v ∙ ap (λ (i : ℕ). take k (drop i (map f v))) (q .at-most2 .ensures) in
-    laid-by-two (a .j) (length v) k (map f v) (endCode ∷ []) (a .out .now) _ (length-map v f) (some m) is _ _ (c .before .before .before .before .before .less2 .ensures) (c .before .before .copy-from .ensures)
+    let k = m .smaller-of .result in
+    let is = p .put-values .ensures ∙ part-map f (q .smaller-of2 .result) k v ∙ ap (λ (i : ℕ). take k (drop i (map f v))) (q .smaller-of2 .ensures) in
+    laid-by-two (a .j) (length v) k (map f v) (endCode ∷ []) (a .out .now) _ (length-map v f) (some m) is _ _ (c .before .before .before .before .before .minus-or-zero2 .ensures) (c .before .before .copy-from .ensures)
 
 pub lay-rest-spec : {M : Type 1} → statement M
 lay-rest-spec =
     tie.close
     (tie.spec
-    less-requires
-    at-most-requires
-    at-most-requires-2
+    minus-or-zero-requires
+    smaller-of-requires
+    smaller-of-requires-2
     add-e
     mul-put-values
     sub-put-values
@@ -115,7 +115,7 @@ lay-rest-spec =
     slice-relend-prefix-put-values
     slice-aggregate-put-values
     put-values-requires
-    less-requires-2
+    minus-or-zero-requires-2
     slice-aggregate-copy-from
     mul-copy-from
     sub-copy-from

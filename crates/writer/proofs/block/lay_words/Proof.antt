@@ -24,17 +24,17 @@ unfolding countWords
 head-six kind vs = refl
 
 -- how many words of the head are laid
-some : (m : tie.After-at-most) → let a = m .before .before .before .before .args in m .at-most .result ≡ min (length (a .out .now)) (6 - a .j)
-some m = let a = m .before .before .before .before .args in m .at-most .ensures ∙ ap (min (length (a .out .now))) (m .before .less .ensures)
+some : (m : tie.After-smaller-of) → let a = m .before .before .before .before .args in m .smaller-of .result ≡ min (length (a .out .now)) (6 - a .j)
+some m = let a = m .before .before .before .before .args in m .smaller-of .ensures ∙ ap (min (length (a .out .now))) (m .before .minus-or-zero .ensures)
 
-less-requires : tie.Need-less-requires
-less-requires c κs = search needs
+minus-or-zero-requires : tie.Need-minus-or-zero-requires
+minus-or-zero-requires c κs = search needs
 
-at-most-requires : tie.Need-at-most-requires
-at-most-requires c κs = search needs
+smaller-of-requires : tie.Need-smaller-of-requires
+smaller-of-requires c κs = search needs
 
-at-most-requires-2 : tie.Need-at-most-requires-2
-at-most-requires-2 c κs = search needs
+smaller-of-requires-2 : tie.Need-smaller-of-requires-2
+smaller-of-requires-2 c κs = search needs
 
 slice-relend-prefix-lay-head : tie.Need-slice-relend-prefix-lay-head
 slice-relend-prefix-lay-head c = search needs
@@ -43,17 +43,17 @@ slice-aggregate-lay-head : tie.Need-slice-aggregate-lay-head
 slice-aggregate-lay-head c =
     let m = c .before .before in
     let a = m .before .before .before .before .args in
-    sym (front-long 6 (a .j) (m .at-most .result) (a .out .now) (some m))
+    sym (front-long 6 (a .j) (m .smaller-of .result) (a .out .now) (some m))
 
 lay-head-requires : tie.Need-lay-head-requires
 lay-head-requires c κs =
     let q = c .before in
     let m = q .before in
     let a = m .before .before .before .before .args in
-    front-in (a .j) 6 (q .at-most2 .result) (m .at-most .result) (a .out .now) (some m) (q .at-most2 .ensures)
+    front-in (a .j) 6 (q .smaller-of2 .result) (m .smaller-of .result) (a .out .now) (some m) (q .smaller-of2 .ensures)
 
-less-requires-2 : tie.Need-less-requires-2
-less-requires-2 c κs = search needs
+minus-or-zero-requires-2 : tie.Need-minus-or-zero-requires-2
+minus-or-zero-requires-2 c κs = search needs
 
 mul-lay-rest : tie.Need-mul-lay-rest
 mul-lay-rest c = search needs
@@ -75,10 +75,10 @@ lay-rest-requires c κs =
     let s = m .before .before .before .before in
     let a = s .args in
     let v = a .values .now in
-    let k = m .at-most .result in
-    let is = front-is (a .j) 6 _ k (head (a .kind) v) (a .out .now) _ (some m) (q .at-most2 .ensures) (p .lay-head .ensures) in
+    let k = m .smaller-of .result in
+    let is = front-is (a .j) 6 _ k (head (a .kind) v) (a .out .now) _ (some m) (q .smaller-of2 .ensures) (p .lay-head .ensures) in
     let all : a .j + length (a .out .now) ≤ 6 + (length v + 1) = omega (arith, s .pre) in
-    second-in (a .j) 6 k (head (a .kind) v) (rest (a .mode) v) (a .out .now) _ (head-six (a .kind) v) (some m) is _ _ (c .before .less2 .ensures) all
+    second-in (a .j) 6 k (head (a .kind) v) (rest (a .mode) v) (a .out .now) _ (head-six (a .kind) v) (some m) is _ _ (c .before .minus-or-zero2 .ensures) all
 
 same-length : tie.Need-same-length
 same-length c = search needs
@@ -91,22 +91,22 @@ returns c =
     let m = q .before in
     let a = m .before .before .before .before .args in
     let v = a .values .now in
-    let k = m .at-most .result in
-    let is = front-is (a .j) 6 _ k (head (a .kind) v) (a .out .now) _ (some m) (q .at-most2 .ensures) (p .lay-head .ensures) in
-    laid-by-two (a .j) 6 k (head (a .kind) v) (rest (a .mode) v) (a .out .now) _ (head-six (a .kind) v) (some m) is _ _ (c .before .before .before .before .less2 .ensures)
+    let k = m .smaller-of .result in
+    let is = front-is (a .j) 6 _ k (head (a .kind) v) (a .out .now) _ (some m) (q .smaller-of2 .ensures) (p .lay-head .ensures) in
+    laid-by-two (a .j) 6 k (head (a .kind) v) (rest (a .mode) v) (a .out .now) _ (head-six (a .kind) v) (some m) is _ _ (c .before .before .before .before .minus-or-zero2 .ensures)
     (c .before .before .lay-rest .ensures)
 
 pub lay-words-spec : {M : Type 1} → statement M
 lay-words-spec =
     tie.close
     (tie.spec
-    less-requires
-    at-most-requires
-    at-most-requires-2
+    minus-or-zero-requires
+    smaller-of-requires
+    smaller-of-requires-2
     slice-relend-prefix-lay-head
     slice-aggregate-lay-head
     lay-head-requires
-    less-requires-2
+    minus-or-zero-requires-2
     mul-lay-rest
     sub-lay-rest
     part-lay-rest-start
