@@ -22,7 +22,6 @@ use Rattle.line.specs.Check.{legal, numberOf, settingsOf, timed, formed, crcSta
 use Rattle.course.specs.declared.Last.the-variants.{Number}
 use Rattle.course.specs.declared.Place.the-variants.{Shut}
 use Rattle.course.specs.Course.{nextNumber}
-use Rattle.machine.specs.declared.phase.Phase.{Phase}
 use Rattle.machine.specs.declared.phase.Phase.the-variants.{Data}
 use Rattle.machine.specs.Phases.{phaseNumbers}
 use Rattle.reader.specs.declared.state.Reader.{Reader}

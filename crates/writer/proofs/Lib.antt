@@ -12,3 +12,4 @@ pub mod Stays
 pub mod Pieces
 pub mod AnswerLaws
 pub mod Samples
+pub mod PlaceLaws
