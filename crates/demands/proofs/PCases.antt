@@ -6,12 +6,13 @@ use mathlib.Core.List.{List, [], _∷_, map}
 use mathlib.Core.Path.{_≡_, refl}
 use lib.IntN.{ℤ, pos, negsuc}
 use lib.ListN.{take, drop, replicate}
+use Rattle.lists.specs.Lists.{part}
 use Rattle.words.specs.Forms.{byteWord}
 use Rattle.words.specs.Modes.{wordOf}
 use Rattle.line.specs.declared.settings.Settings.{Settings}
 use Rattle.line.specs.Systems.{systemOf}
 use Rattle.line.specs.Timing.{timingWord, timingWords}
-use Rattle.line.specs.Header.{numberWords, settingsBytes, settingsWords}
+use Rattle.line.specs.Header.{idWords, numberWords, settingsBytes, settingsWords, summedWords, headerWords}
 use Rattle.course.specs.declared.Last.the-variants.{Number}
 use Rattle.course.specs.Course.{nextNumber}
 use Rattle.writer.specs.Block.{blockWords}
@@ -35,10 +36,15 @@ with-code : ℕ → ℕ → Settings
 with-code aai code =
     record { code = code; aai = aai; destination = replicate 16 0; source = replicate 16 0; block = 0xC1; flag = 0; reserved = replicate 5 0 }
 
+-- a word of the header of line 1 with such settings
+headerWord : ℕ → List ℕ
+headerWord i = part i 1 (headerWords 1 (with-code 1 2))
+
 pub cases : List Case
 cases =
-    -- "DID 40h is 140h"
-    words (byteWord 0x40 ∷ []) (0x140 ∷ [])
+    -- "DID 40h is 140h": 40h in byte form, the first word that the line CRC covers, and the header's fourth word
+    words (byteWord 0x40 ∷ take 1 idWords) (0x140 ∷ 0x140 ∷ [])
+    ∷ words (headerWord 3) (0x140 ∷ [])
     -- "line 1 is 101h 200h"
     ∷ words (numberWords 1) (0x101 ∷ 0x200 ∷ [])
     -- "525 is 10Dh 102h"
@@ -47,8 +53,9 @@ cases =
     ∷ words (numberWords 625) (0x271 ∷ 0x102 ∷ [])
     -- "AAI 1 with code 2 is 212h": the first of the settings' words
     ∷ words (take 1 (settingsWords (with-code 1 2))) (0x212 ∷ [])
-    -- "C1h is 1C1h"
+    -- "C1h is 1C1h": C1h in byte form, and the header's word for a block type of C1h
     ∷ words (byteWord 0xC1 ∷ []) (0x1C1 ∷ [])
+    ∷ words (headerWord 43) (0x1C1 ∷ [])
     -- "9-bit 100h is 100h, 0FFh is 2FFh"
     ∷ words (wordOf 9 0x100 ∷ wordOf 9 0x0FF ∷ []) (0x100 ∷ 0x2FF ∷ [])
     -- "EAV with F=V=0 ends 274h, SAV 200h"
@@ -65,5 +72,5 @@ cases =
 
 -- each is printed as it is computed
 pub printed-is : map (λ (c : Case). c .computed) cases ≡ map (λ (c : Case). c .printed) cases
-unfolding cases words jump with-code byteWord wordOf timingWord timingWords xor numberWords settingsBytes settingsWords blockWords nextNumber folded
+unfolding cases words jump with-code headerWord byteWord wordOf timingWord timingWords xor numberWords settingsBytes settingsWords summedWords headerWords blockWords nextNumber folded
 printed-is = refl

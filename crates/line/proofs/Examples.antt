@@ -1,29 +1,25 @@
--- Each answer of the line check is reached: one small example a number, and the slips of 01, in one checked list with one claim.
+-- Each answer of the line check is reached on whole lines of the four systems, in one checked list with one claim. All of it is computed here, the
+-- CRC of an area too; the reader's answer 2 and the writer's answers are not the line check's. 01's slips are listed in reader/proofs/Slips.
 -- Assumes nothing.
 use mathlib.Core.Bool.{Bool, true, false, _&&_}
 use mathlib.Core.List.{List, [], _∷_, _++_}
-use Prim.Native.Nat.{ℕ, suc}
+use Prim.Native.Nat.{ℕ, suc, _-_}
 use lib.Dec.{T, eqb}
-use lib.ListN.{take, drop, replicate}
-use Rattle.lists.specs.Tests.{pick, lowestOf}
+use lib.ListN.{length, take, drop, replicate}
+use Rattle.lists.specs.Tests.{pick}
 use Rattle.lists.specs.Lists.{part}
 use Rattle.words.specs.Forms.{byteWord, dataWord, isByte, isData}
 use Rattle.words.specs.Modes.{isMode}
 use Rattle.words.specs.Checksum.{checksum}
-use Rattle.words.specs.Crc.{crcWords, crcOf, crcStart}
+use Rattle.words.specs.Crc.{crcWords}
 use Rattle.line.specs.declared.settings.Settings.{Settings}
-use Rattle.line.specs.declared.systems.System.{System}
-use Rattle.line.specs.Systems.{isSystem}
+use Rattle.line.specs.Systems.{systemOf, isSystem}
 use Rattle.line.specs.Timing.{timingWord, timingWords}
 use Rattle.line.specs.Fixed.{table, fixedOf, placesOf, sizeOf, fillsAll, blockRefused}
 use Rattle.line.specs.Settings.{settingsFaults}
 use Rattle.line.specs.Header.{numberWords, settingsBytes, settingsWords, summedWords, headerWords}
-use Rattle.line.specs.Layout.{areaLength, endWords, lineWords, areaOf, endOf}
+use Rattle.line.specs.Layout.{areaLength, endWords, framed, areaOf, endOf}
 use Rattle.line.specs.Check.{legal, numberOf, settingsOf, timed, formed, crcStands, numbered, headFaults, areaFaults, payloadFaults, faults, fitsLength, lineFault}
-
--- a system with a short line: L 75, P 10, N 525, code 1
-short : System
-short = record { length = 75; payload = 10; lines = 525; code = 1 }
 
 -- settings: code, AAI, block type, flag and the last reserved byte
 set : ℕ → ℕ → ℕ → ℕ → ℕ → Settings
@@ -47,9 +43,12 @@ fixed = set 1 0 0x21 0 0
 guarded : Settings
 guarded = set 1 0 0xc1 1 0
 
--- its line of that number and those settings, all filler
-line : ℕ → Settings → List ℕ
-line n s = lineWords short false true n s [] (replicate (areaLength 10 (s .flag)) 0x200)
+-- a line of that number and those settings, its payload all filler; and with those two words last
+line : ℕ → ℕ → Settings → List ℕ
+line system n s = framed (systemOf system) false true n s [] (replicate (systemOf system .payload) 0x200)
+
+ending : ℕ → ℕ → List ℕ → List ℕ
+ending a b l = take (length l - 2) l ++ (a ∷ b ∷ [])
 
 -- the word at index i changed to w
 put : ℕ → ℕ → List ℕ → List ℕ
@@ -61,10 +60,6 @@ resum l = put 56 (checksum (part 7 49 l)) l
 
 renumber : ℕ → List ℕ → List ℕ
 renumber w l = let m = put 11 w l in resum (take 12 m ++ (crcWords (part 7 5 m) ++ drop 14 m))
-
--- the lowest of 3 to 16 that holds
-found : ℕ → List ℕ → ℕ
-found mode l = lowestOf (faults short mode l)
 
 -- what the definitions give, and what 01 has
 pub record Case : Type 0 where
@@ -80,38 +75,44 @@ hold (c ∷ cs) = eqb (c .given) (c .wanted) && hold cs
 
 pub answers : List Case
 answers =
-    case (found 8 (line 1 plain)) 0 ∷ case (found 9 (line 525 fixed)) 0 ∷ case (found 8 (line 20 guarded)) 0
-    ∷ case (lineFault 4 8 []) 1 ∷ case (lineFault 0 10 []) 1 ∷ case (lineFault 0 8 []) 1
-    ∷ case (found 8 (put 3 0x274 (line 1 plain))) 3
-    ∷ case (found 8 (put 5 0x3fe (line 1 plain))) 4
-    ∷ case (found 8 (put 20 0x207 (line 1 plain))) 5
-    ∷ case (found 8 (put 56 0x2ff (line 1 plain))) 6
-    ∷ case (found 8 (resum (put 12 0x2ff (line 1 plain)))) 7
-    ∷ case (found 8 (resum (put 55 0x2ff (line 1 plain)))) 8
-    ∷ case (found 8 (line 0 plain)) 9 ∷ case (found 8 (line 526 plain)) 9 ∷ case (found 8 (renumber (byteWord 4) (line 1 plain))) 9
-    ∷ case (found 8 (line 1 (set 2 0 0xc1 0 0))) 10
-    ∷ case (found 8 (line 1 (set 1 2 0xc1 0 0))) 11
-    ∷ case (found 8 (line 1 (set 1 0 0x05 0 0))) 12 ∷ case (found 8 (line 1 (set 1 0 0x81 0 0))) 12
-    ∷ case (found 8 (line 1 (set 1 0 0xc1 2 0))) 13
-    ∷ case (found 8 (line 1 (set 1 0 0xc1 0 1))) 14
-    ∷ case (found 8 (put 65 0x000 (line 1 plain))) 15 ∷ case (found 8 (put 65 0x600 (line 1 plain))) 15
-    ∷ case (found 8 (put 65 0x309 (line 1 plain))) 0 ∷ case (found 8 (put 65 0x30a (line 1 fixed))) 15 ∷ case (found 8 (put 74 0x309 (line 1 guarded))) 15
-    ∷ case (found 8 (put 65 0x101 (line 1 guarded))) 16 ∷ []
+    -- none: each system and mode; a fixed block; with flag 01h and the CRC of 1,438 words of filler, which an independent program computed
+    case (lineFault 0 8 (line 0 1 plain)) 0 ∷ case (lineFault 1 9 (line 1 625 plain)) 0
+    ∷ case (lineFault 2 9 (line 2 525 (set 2 1 0x09 0 0))) 0 ∷ case (lineFault 3 8 (line 3 625 (set 2 0 0xc1 0 0))) 0
+    ∷ case (lineFault 0 9 (line 0 525 fixed)) 0
+    ∷ case (lineFault 0 8 (ending 0x1c0 0x21a (line 0 20 guarded))) 0
+    -- 1: unknown system or mode; line not L long
+    ∷ case (lineFault 4 8 (line 0 1 plain)) 1 ∷ case (lineFault 0 10 (line 0 1 plain)) 1 ∷ case (lineFault 1 8 (line 0 1 plain)) 1 ∷ case (lineFault 0 8 []) 1
+    -- 3: EAV; SAV; F and V not those of EAV
+    ∷ case (lineFault 0 8 (put 0 0x3fe (line 0 1 plain))) 3 ∷ case (lineFault 0 8 (put 274 0x001 (line 0 1 plain))) 3
+    ∷ case (lineFault 0 8 (put 3 0x274 (line 0 1 plain))) 3
+    -- 4, 5, 6, 7, 8
+    ∷ case (lineFault 0 8 (put 5 0x3fe (line 0 1 plain))) 4
+    ∷ case (lineFault 0 8 (put 20 0x207 (line 0 1 plain))) 5 ∷ case (lineFault 0 8 (put 56 0x000 (line 0 1 plain))) 5
+    ∷ case (lineFault 0 8 (put 56 0x2ff (line 0 1 plain))) 6
+    ∷ case (lineFault 0 8 (resum (put 12 0x2ff (line 0 1 plain)))) 7
+    ∷ case (lineFault 0 8 (resum (put 55 0x2ff (line 0 1 plain)))) 8
+    -- 9: not 1..N; B7-B2 of the second word not 0
+    ∷ case (lineFault 0 8 (line 0 0 plain)) 9 ∷ case (lineFault 0 8 (line 0 526 plain)) 9 ∷ case (lineFault 1 8 (line 1 626 plain)) 9
+    ∷ case (lineFault 0 8 (renumber (byteWord 4) (line 0 1 plain))) 9
+    -- 10, 11
+    ∷ case (lineFault 0 8 (line 0 1 (set 2 0 0xc1 0 0))) 10 ∷ case (lineFault 2 8 (line 2 1 plain)) 10
+    ∷ case (lineFault 0 8 (line 0 1 (set 1 2 0xc1 0 0))) 11
+    -- 12: not listed; none at this rate; refused with flag 01h; each with B6 too
+    ∷ case (lineFault 0 8 (line 0 1 (set 1 0 0x05 0 0))) 12 ∷ case (lineFault 0 8 (line 0 1 (set 1 0 0x81 0 0))) 12
+    ∷ case (lineFault 0 8 (line 0 1 (set 1 0 0x09 0 0))) 12 ∷ case (lineFault 1 8 (line 1 1 (set 1 0 0x49 0 0))) 12
+    ∷ case (lineFault 0 8 (line 0 1 (set 1 0 0x37 1 0))) 12 ∷ case (lineFault 1 8 (line 1 1 (set 1 0 0x78 1 0))) 12
+    ∷ case (lineFault 2 8 (line 2 1 (set 2 0 0x38 1 0))) 12
+    ∷ case (lineFault 0 8 (line 0 1 (set 1 0 0x37 0 0))) 0 ∷ case (lineFault 0 8 (line 0 1 (set 1 0 0x38 2 0))) 13
+    -- 13, 14
+    ∷ case (lineFault 0 8 (line 0 1 (set 1 0 0xc1 2 0))) 13
+    ∷ case (lineFault 0 8 (line 0 1 (set 1 0 0xc1 0 1))) 14
+    -- 15: area word; 400h and above; 309h and 30Ah in variable lines only; a CRC word
+    ∷ case (lineFault 0 8 (put 276 0x000 (line 0 1 plain))) 15 ∷ case (lineFault 0 8 (put 1715 0x600 (line 0 1 plain))) 15
+    ∷ case (lineFault 0 8 (put 276 0x309 (line 0 1 plain))) 0 ∷ case (lineFault 0 8 (put 276 0x30a (line 0 1 fixed))) 15
+    ∷ case (lineFault 0 8 (put 1715 0x309 (line 0 1 guarded))) 15
+    -- 16
+    ∷ case (lineFault 0 8 (line 0 1 guarded)) 16 ∷ []
 
--- a Bool as 1 or 0
-abbrev yes-no : Bool → ℕ
-yes-no true = 1
-yes-no false = 0
-
--- 01's slips: places as P divided by size, or as P-2 divided by size; the CRC over bytes and not ten bits; parity asked of 9-bit data
-pub slips : List Case
-slips =
-    case (placesOf 1440 0x21) 287 ∷ case (placesOf 1440 0x37) 10 ∷ case (placesOf 1920 0x37) 13
-    ∷ case (yes-no (blockRefused 1440 0x77 1)) 1 ∷ case (yes-no (blockRefused 1920 0x37 1)) 0 ∷ case (yes-no (blockRefused 1440 0x38 2)) 0
-    ∷ case (yes-no (blockRefused 1440 0x49 0)) 1 ∷ case (yes-no (blockRefused 1920 0x49 0)) 0
-    ∷ case (crcOf crcStart (0x100 ∷ [])) 0x2c7f7 ∷ case (crcOf crcStart (0x000 ∷ [])) 0x3dff7
-    ∷ case (found 9 (put 65 0x100 (line 1 plain))) 0 ∷ case (found 8 (put 65 0x100 (line 1 plain))) 15 ∷ []
-
-pub they-hold : T (hold (answers ++ slips))
-unfolding hold answers slips short set plain fixed guarded line put resum renumber found pick isMode isSystem isByte isData byteWord dataWord checksum crcOf crcWords timingWord timingWords mathlib.Core.Bool.xor table fixedOf placesOf sizeOf fillsAll blockRefused settingsFaults numberWords settingsBytes settingsWords summedWords headerWords areaLength endWords lineWords areaOf endOf legal numberOf settingsOf timed formed crcStands numbered headFaults areaFaults payloadFaults faults fitsLength lineFault
+pub they-hold : T (hold answers)
+unfolding hold answers set plain fixed guarded line ending put resum renumber pick isMode isSystem isByte isData byteWord dataWord checksum crcWords timingWord timingWords mathlib.Core.Bool.xor table fixedOf placesOf sizeOf fillsAll blockRefused settingsFaults numberWords settingsBytes settingsWords summedWords headerWords areaLength endWords framed areaOf endOf legal numberOf settingsOf timed formed crcStands numbered headFaults areaFaults payloadFaults faults fitsLength lineFault
 they-hold = tt

@@ -86,21 +86,26 @@ fits-360 : (block : ℕ) → T (fitting 1920 (placesOf 1920 block) (sizeOf block
 unfolding placesOf sizeOf fixedOf table pick
 fits-360 block = by-kind (fitting 1920) 1920 tt block
 
--- 01's list: 37h at 270 and 38h at both rates fill all P words, and no other kind does
-abbrev named : ℕ → ℕ → Bool
-named p k = (eqb k 0x37 && eqb p 1440) || eqb k 0x38
-
-pub fills-270 : (k : ℕ) → k < 64 → fillsAll 1440 k ≡ named 1440 k
-unfolding fillsAll placesOf sizeOf fixedOf table pick
-fills-270 k h = agree→eq (fillsAll 1440 k) (named 1440 k) (below 64 (λ k. agree (fillsAll 1440 k) (named 1440 k)) tt k h)
-
-pub fills-360 : (k : ℕ) → k < 64 → fillsAll 1920 k ≡ named 1920 k
-unfolding fillsAll placesOf sizeOf fixedOf table pick
-fills-360 k h = agree→eq (fillsAll 1920 k) (named 1920 k) (below 64 (λ k. agree (fillsAll 1920 k) (named 1920 k)) tt k h)
-
 -- the payload of a system is one of the two
 payloads : (system : ℕ) → isSystem system ≡ true → (P : ℕ → Type 0) → P 1440 → P 1920 → P (systemOf system .payload)
 payloads system e P a b = ⊎-elim (λ z. subst P (sym z) a) (λ z. subst P (sym z) b) (sound system e .rates)
+
+-- 01's list: 37h at 270 and 38h at both rates fill all P words, whatever B6 is, and no other of the 128 block types does
+abbrev pub listed : ℕ → ℕ → Bool
+listed p block = (eqb (block % 64) 0x37 && eqb p 1440) || eqb (block % 64) 0x38
+
+both : (a b : Bool) → T (a && b) → T a × T b
+both true b t = (tt, t)
+both false b t = absurd t
+
+both-rates : (block : ℕ) → block < 128 → T (agree (fillsAll 1440 block) (listed 1440 block) && agree (fillsAll 1920 block) (listed 1920 block))
+unfolding fillsAll placesOf sizeOf fixedOf table pick
+both-rates block h = below 128 (λ k. agree (fillsAll 1440 k) (listed 1440 k) && agree (fillsAll 1920 k) (listed 1920 k)) tt block h
+
+pub fills-listed : (system : ℕ) → isSystem system ≡ true → (block : ℕ) → block < 128 → fillsAll (systemOf system .payload) block ≡ listed (systemOf system .payload) block
+fills-listed system known block h =
+    let t = both (agree (fillsAll 1440 block) (listed 1440 block)) (agree (fillsAll 1920 block) (listed 1920 block)) (both-rates block h) in
+    payloads system known (λ p. fillsAll p block ≡ listed p block) (agree→eq _ _ (t .0)) (agree→eq _ _ (t .1))
 
 area-by : (p q : ℕ) (f e l m : Bool) → leb q p ≡ l → leb q (p - 2) ≡ m → T (l && (e || m)) → (f && e) ≡ false → q ≤ pick f (p - 2) p
 unfolding pick

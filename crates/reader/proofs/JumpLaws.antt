@@ -1,15 +1,15 @@
--- The jump: it is 0 exactly where the line is the next one, it is within half a frame, and it is the difference but for one frame.
--- Said once, over N and half of it.
+-- The jump: it is 0 exactly where the line is the next one, whatever the numbers; of numbers 1..N it is within half a frame, and the difference
+-- but for one frame. Said once, over N and half of it.
 -- Assumes nothing.
 use mathlib.Core.Path.{_≡_, refl, sym, ap, subst, _∙_}
-use mathlib.Core.Bool.{Bool, true, false, not, cond}
+use mathlib.Core.Bool.{Bool, true, false, _||_, not, cond}
 use mathlib.Core.Logic.{_⊎_, inl, inr}
 use mathlib.Core.List.{[], _∷_, map}
 use Prim.Native.Nat.{ℕ, zero, suc, _+_, _*_, _-_, _/_, _<_, _≤_}
 use native.Mathlib.Omega.{arith}
-use lib.Dec.{eqb, eqb·suc-zero, leb, ltb}
+use lib.Dec.{T, eqb, eqb·suc-zero, leb, ltb}
 use lib.IntN.{ℤ, pos, negsuc, negℤ, natAbs, subℕ, _+ℤ_, _-ℤ_}
-use borrow.Author.Tests.{lt-ltb, le-ltb, ltb-true, ltb-false, leb-true, leb-false, eqb-true, eqb-false, eq-eqb, ne-eqb}
+use borrow.Author.Tests.{lt-ltb, le-ltb, ltb-true, ltb-false, lt-leb, leb-true, leb-false, eqb-true, eqb-false, eq-eqb, ne-eqb}
 use Rattle.lists.specs.Tests.{pick}
 use Rattle.lists.proofs.Tests.{pick-true, pick-false}
 use Rattle.course.specs.declared.Last.the-variants.{Number}
@@ -18,7 +18,7 @@ use Rattle.line.proofs.SystemLaws.{odd-lines}
 use Rattle.course.specs.Course.{nextNumber}
 use Rattle.reader.specs.declared.jump.Jump.{Jump}
 use Rattle.reader.specs.declared.jump.Jump.the-variants.{Unknown as NotKnown, Known}
-use Rattle.reader.specs.Jump.{folded, jumpFrom, isZero}
+use Rattle.reader.specs.Jump.{stays, folded, jumpFrom, isZero}
 
 -- ---- d behind, or d ahead
 abbrev pub apart : Bool → ℕ → ℤ
@@ -42,16 +42,33 @@ unfolding pick
 apart-none true = refl
 apart-none false = refl
 
--- a distance within half a frame stays; else the rest of the frame lies the other way
-pub fold-near : (lines : ℕ) (b : Bool) (d : ℕ) → leb d (lines / 2) ≡ true → folded lines (apart b d) ≡ apart b d
+-- a distance that doesn't stay is more than half a frame, and less than one; one below a frame that stays is at most half of it
+parts-by : (a b : Bool) → (a || b) ≡ false → (a ≡ false) × (b ≡ false)
+parts-by false false e = (refl, refl)
+parts-by false true e = absurd (subst T e tt)
+parts-by true b e = absurd (subst T e tt)
+
+pub moves : (lines d : ℕ) → stays lines d ≡ false → (lines / 2 < d) × (d < lines)
+moves lines d e = let p = parts-by (leb d (lines / 2)) (leb lines d) e in (leb-false d (lines / 2) (p .0), leb-false lines d (p .1))
+
+near-by : (a b : Bool) → (a || b) ≡ true → b ≡ false → a ≡ true
+near-by true b e f = refl
+near-by false true e f = absurd (subst T f tt)
+near-by false false e f = absurd (subst T (sym e) tt)
+
+near : (lines d : ℕ) → stays lines d ≡ true → d < lines → d ≤ lines / 2
+near lines d e k = leb-true d (lines / 2) (near-by (leb d (lines / 2)) (leb lines d) e (lt-leb lines d k))
+
+-- a distance that stays; else the rest of the frame lies the other way
+pub fold-near : (lines : ℕ) (b : Bool) (d : ℕ) → stays lines d ≡ true → folded lines (apart b d) ≡ apart b d
 unfolding folded pick
 fold-near lines true zero e = pick-true _ _ e
 fold-near lines true (suc d) e = pick-true _ _ e
 fold-near lines false d e = pick-true _ _ e
 
-pub fold-far : (lines : ℕ) (b : Bool) (d : ℕ) → leb d (lines / 2) ≡ false → folded lines (apart b d) ≡ apart (not b) (lines - d)
+pub fold-far : (lines : ℕ) (b : Bool) (d : ℕ) → stays lines d ≡ false → folded lines (apart b d) ≡ apart (not b) (lines - d)
 unfolding folded pick
-fold-far lines true zero e = let h = leb-false zero (lines / 2) e in absurd (omega arith)
+fold-far lines true zero e = let h = moves lines zero e in absurd (omega arith)
 fold-far lines true (suc d) e = pick-false _ _ e
 fold-far lines false d e = pick-false _ _ e
 
@@ -79,31 +96,32 @@ rest-off zero b (suc d) l k e = absurd (omega arith)
 rest-off (suc n) true (suc d) l k e = inr (e ∙ sym (sub-ahead (suc n) (suc d) (omega arith)))
 rest-off (suc n) false (suc d) l k e = inl (e ∙ sym (sub-behind (suc d) (suc n) k))
 
+-- ---- the fold is 0 exactly where the difference is
+pub fold-zero : (lines : ℕ) (b : Bool) (d : ℕ) → isZero (Known (folded lines (apart b d))) ≡ eqb d 0
+fold-zero lines b d = go (stays lines d) refl
+  where
+    go : (t : Bool) → stays lines d ≡ t → isZero (Known (folded lines (apart b d))) ≡ eqb d 0
+    go true e = ap (λ (z : ℤ). isZero (Known z)) (fold-near lines b d e) ∙ apart-zero b d
+    go false e =
+        let q = moves lines d e in
+        ap (λ (z : ℤ). isZero (Known z)) (fold-far lines b d e) ∙ apart-zero (not b) (lines - d) ∙ ne-eqb (lines - d) 0 (λ p. omega arith) ∙ sym (ne-eqb d 0 (λ p. omega arith))
+
 -- ---- the fold of less than a frame
 -- h is half of a frame that has an odd number of lines
 module _ (lines h : ℕ) (odd : lines ≡ 2 * h + 1) where
   fold-range : (b : Bool) (d : ℕ) → d < lines → natAbs (folded lines (apart b d)) ≤ h
-  fold-range b d k = go (leb d (lines / 2)) refl
+  fold-range b d k = go (stays lines d) refl
     where
-      go : (t : Bool) → leb d (lines / 2) ≡ t → natAbs (folded lines (apart b d)) ≤ h
-      go true e = let q = leb-true d (lines / 2) e in rw (ap natAbs (fold-near lines b d e) ∙ apart-size b d) (omega arith)
-      go false e = let q = leb-false d (lines / 2) e in rw (ap natAbs (fold-far lines b d e) ∙ apart-size (not b) (lines - d)) (omega arith)
-
-  fold-zero : (b : Bool) (d : ℕ) → d < lines → isZero (Known (folded lines (apart b d))) ≡ eqb d 0
-  fold-zero b d k = go (leb d (lines / 2)) refl
-    where
-      go : (t : Bool) → leb d (lines / 2) ≡ t → isZero (Known (folded lines (apart b d))) ≡ eqb d 0
-      go true e = ap (λ (z : ℤ). isZero (Known z)) (fold-near lines b d e) ∙ apart-zero b d
-      go false e =
-          let q = leb-false d (lines / 2) e in
-          ap (λ (z : ℤ). isZero (Known z)) (fold-far lines b d e) ∙ apart-zero (not b) (lines - d) ∙ ne-eqb (lines - d) 0 (λ p. omega arith) ∙ sym (ne-eqb d 0 (λ p. omega arith))
+      go : (t : Bool) → stays lines d ≡ t → natAbs (folded lines (apart b d)) ≤ h
+      go true e = let q = near lines d e k in rw (ap natAbs (fold-near lines b d e) ∙ apart-size b d) (omega arith)
+      go false e = let q = moves lines d e in rw (ap natAbs (fold-far lines b d e) ∙ apart-size (not b) (lines - d)) (omega arith)
 
   fold-off : (b : Bool) (d : ℕ) → d < lines → OffBy lines (apart b d) (folded lines (apart b d))
-  fold-off b d k = go (leb d (lines / 2)) refl
+  fold-off b d k = go (stays lines d) refl
     where
-      go : (t : Bool) → leb d (lines / 2) ≡ t → OffBy lines (apart b d) (folded lines (apart b d))
+      go : (t : Bool) → stays lines d ≡ t → OffBy lines (apart b d) (folded lines (apart b d))
       go true e = inl (fold-near lines b d e)
-      go false e = inr (rest-off lines b d (omega (arith, leb-false d (lines / 2) e)) k (fold-far lines b d e))
+      go false e = inr (rest-off lines b d (omega (arith, moves lines d e)) k (fold-far lines b d e))
 
 -- ---- the number after x
 next-within : (lines x : ℕ) → 1 ≤ x → x ≤ lines → (1 ≤ nextNumber lines x) × (nextNumber lines x ≤ lines)
@@ -122,6 +140,23 @@ gap-zero a b l = go (eqb a b) refl
     go false e = ne-eqb (a - b) 0 (λ p. eqb-false a b e (omega arith))
 
 -- ---- the jump
+-- 0 exactly where the line is the next one: whatever N, the last number and the line's number are
+less-zero : (lines number e : ℕ) → isZero (Known (folded lines (subℕ number e))) ≡ eqb number e
+less-zero lines number e = go (ltb number e) refl
+  where
+    go : (t : Bool) → ltb number e ≡ t → isZero (Known (folded lines (subℕ number e))) ≡ eqb number e
+    go true q =
+        let k = ltb-true number e q in
+        ap (λ (z : ℤ). isZero (Known (folded lines z))) (sub-behind number e k) ∙ fold-zero lines true (e - number)
+        ∙ ne-eqb (e - number) 0 (λ p. omega arith) ∙ sym (ne-eqb number e (λ p. omega arith))
+    go false q =
+        let k = ltb-false number e q in
+        ap (λ (z : ℤ). isZero (Known (folded lines z))) (sub-ahead number e k) ∙ fold-zero lines false (number - e)
+        ∙ gap-zero number e k
+
+pub jump-zero : (lines x number : ℕ) → isZero (jumpFrom lines (Number x) number) ≡ eqb number (nextNumber lines x)
+jump-zero lines x number = less-zero lines number (nextNumber lines x)
+
 -- known, and no more than h ahead or behind
 abbrev pub Within : ℕ → Jump → Type 0
 Within h NotKnown = ⊥
@@ -141,24 +176,7 @@ module _ (lines h : ℕ) (odd : lines ≡ 2 * h + 1) (number : ℕ) (one : 1 ≤
       go true q = subst P (sym (sub-behind number e (ltb-true number e q))) (f true (e - number) (omega arith))
       go false q = subst P (sym (sub-ahead number e (ltb-false number e q))) (f false (number - e) (omega arith))
 
-  less-zero : (e : ℕ) → 1 ≤ e → e ≤ lines → isZero (Known (folded lines (subℕ number e))) ≡ eqb number e
-  less-zero e l m = go (ltb number e) refl
-    where
-      go : (t : Bool) → ltb number e ≡ t → isZero (Known (folded lines (subℕ number e))) ≡ eqb number e
-      go true q =
-          let k = ltb-true number e q in
-          ap (λ (z : ℤ). isZero (Known (folded lines z))) (sub-behind number e k) ∙ fold-zero lines h odd true (e - number) (omega arith)
-          ∙ ne-eqb (e - number) 0 (λ p. omega arith) ∙ sym (ne-eqb number e (λ p. omega arith))
-      go false q =
-          let k = ltb-false number e q in
-          ap (λ (z : ℤ). isZero (Known (folded lines z))) (sub-ahead number e k) ∙ fold-zero lines h odd false (number - e) (omega arith)
-          ∙ gap-zero number e k
-
   module _ (x : ℕ) (least : 1 ≤ x) (most : x ≤ lines) where
-    -- 0 exactly where the line is the next one
-    pub jump-zero : isZero (jumpFrom lines (Number x) number) ≡ eqb number (nextNumber lines x)
-    jump-zero = let w = next-within lines x least most in less-zero (nextNumber lines x) (w .0) (w .1)
-
     -- within half a frame
     pub jump-range : Within h (jumpFrom lines (Number x) number)
     jump-range =
@@ -180,7 +198,7 @@ module _ (system number x : ℕ) (one : 1 ≤ number) (last : number ≤ systemO
   lines-odd = odd-lines system (omega arith)
 
   pub system-jump-zero : isZero (jumpFrom (systemOf system .lines) (Number x) number) ≡ eqb number (nextNumber (systemOf system .lines) x)
-  system-jump-zero = jump-zero (systemOf system .lines) (systemOf system .lines / 2) lines-odd number one last x least most
+  system-jump-zero = jump-zero (systemOf system .lines) x number
 
   pub system-jump-range : Within (systemOf system .lines / 2) (jumpFrom (systemOf system .lines) (Number x) number)
   system-jump-range = jump-range (systemOf system .lines) (systemOf system .lines / 2) lines-odd number one last x least most

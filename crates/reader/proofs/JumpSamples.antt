@@ -29,6 +29,11 @@ jumps =
     ∷ case (jumped (jumpFrom 625 (Number 625) 313)) (0 ∷ 312 ∷ [])
     ∷ case (jumped (jumpFrom 625 (Number 625) 314)) (1 ∷ 312 ∷ [])
     ∷ case (jumped (jumpFrom 525 Unknown 1)) []
+    -- outside 1..N: 600 after 1, and 527, which is a frame ahead of the next one
+    ∷ case (jumped (jumpFrom 525 (Number 1) 600)) (0 ∷ 598 ∷ [])
+    ∷ case (jumped (jumpFrom 525 (Number 1) 527)) (0 ∷ 525 ∷ [])
+    ∷ case (jumped (jumpFrom 525 (Number 524) 0)) (1 ∷ 525 ∷ [])
+    ∷ case (jumped (jumpFrom 525 (Number 600) 1)) (0 ∷ 0 ∷ [])
     ∷ []
 
 pub they-hold : T (hold jumps)

@@ -9,3 +9,6 @@ pub mod ReadLaws
 pub mod Ends
 pub mod AtCapacity
 pub mod JumpSamples
+pub mod GapUnread
+pub mod PlaceAt
+pub mod Slips

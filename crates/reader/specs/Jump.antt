@@ -1,7 +1,7 @@
 -- The signed jump.
 -- Assumes nothing.
 use Prim.Native.Nat.{ℕ, zero, suc, _-_, _/_}
-use mathlib.Core.Bool.{Bool, true, false}
+use mathlib.Core.Bool.{Bool, true, false, _||_}
 use mathlib.Core.List.{List, [], _∷_}
 use lib.Dec.{leb}
 use lib.IntN.{ℤ, pos, negsuc, negℤ, subℕ}
@@ -12,10 +12,14 @@ use Rattle.course.specs.Course.{nextNumber}
 use Rattle.reader.specs.declared.jump.Jump.{Jump}
 use Rattle.reader.specs.declared.jump.Jump.the-variants.{Unknown as NotKnown, Known}
 
+-- a distance that stays as it is: no more than half a frame; or a whole frame or more, which no two numbers 1..N are apart
+abbrev pub stays : ℕ → ℕ → Bool
+stays lines d = leb d (lines / 2) || leb lines d
+
 -- a difference folded by N: what is more than half a frame ahead is the rest of the frame behind, and the other way round
 unfoldable pub folded : ℕ → ℤ → ℤ
-folded lines (pos d) = pick (leb d (lines / 2)) (pos d) (negℤ (pos (lines - d)))
-folded lines (negsuc d) = pick (leb (suc d) (lines / 2)) (negsuc d) (pos (lines - suc d))
+folded lines (pos d) = pick (stays lines d) (pos d) (negℤ (pos (lines - d)))
+folded lines (negsuc d) = pick (stays lines (suc d)) (negsuc d) (pos (lines - suc d))
 
 -- line number less expected number, folded by N; the number after N is 1; with no last number, "unknown"
 abbrev pub jumpFrom : ℕ → Last → ℕ → Jump

@@ -1,4 +1,5 @@
-// The signed jump: line number less expected number, folded by N into a symmetric range, 0 exactly where the line is the next one.
+// The signed jump: line number less expected number, folded by N into a symmetric range, 0 exactly where the line is the next one,
+// whatever numbers are lent: what is a frame or more apart, as no two numbers 1..N are, isn't folded.
 use course::Last;
 ghost use mathlib.Core.Path.{_≡_};
 ghost use lib.IntN.{pos, negℤ, subℕ};
@@ -26,11 +27,8 @@ fn signed(behind: bool, m: u16) -> i32
 fn folded_by(lines: u16, behind: bool, d: u16) -> i32
     ensures { λ r. ⌜ r ≡ folded lines (pick behind (negℤ (pos d)) (pos d)) ⌝ }
 {
-    if d <= lines / 2 {
+    if (d <= lines / 2) | (lines <= d) {
         return signed(behind, d);
-    }
-    if lines < d {
-        return 0;
     }
     signed(!behind, lines - d)
 }

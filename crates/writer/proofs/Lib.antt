@@ -13,3 +13,4 @@ pub mod Pieces
 pub mod AnswerLaws
 pub mod NumberLaws
 pub mod Samples
+pub mod PlaceLaws

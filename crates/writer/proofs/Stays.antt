@@ -179,7 +179,7 @@ module _ (w : Writer) (line : List ℕ) (kind : ℕ) (vs : List ℕ) (ok : addFa
   pub fixed-whole : isVariable (w .settings .block) ≡ false → w .rest ≡ NoBlock
   fixed-whole v = whole-by (w .rest) (isVariable block) (at-adding .course .varied) v
 
-  fixed-size : isVariable (w .settings .block) ≡ false → length ws ≡ sizeOf block
+  pub fixed-size : isVariable (w .settings .block) ≡ false → length ws ≡ sizeOf block
   fixed-size v =
       ap (λ (r : Rest). length (drop (laidOf r) (wordsIn block (w .mode) kind vs))) (fixed-whole v)
       ∙ ap length (words-fixed block (w .mode) kind vs v)

@@ -41,7 +41,7 @@ loop-again c =
     lines-turn _ _ _ _ _ _ _ _ _ _ told _ _ _ _ l goes
     (omega (arith, c .before .before .before .before .before .before .before .before .before .before .before .loop-test .taken))
     (record {
-      call-is = c .before .before .before .before .before .before .before .before .read .ensures;
+      call-is = c .before .before .before .before .before .before .before .before .read .ensures .0;
       row-is = p .ensures .0;
       at-most = p .ensures .1;
       more-is = c .goes-on .ensures;
