@@ -9,6 +9,7 @@ use lib.ListN.{take, drop, replicate}
 use Rattle.lists.specs.Lists.{part}
 use Rattle.words.specs.Forms.{byteWord}
 use Rattle.words.specs.Modes.{wordOf}
+use Rattle.words.specs.Crc.{crcWords}
 use Rattle.line.specs.declared.settings.Settings.{Settings}
 use Rattle.line.specs.Systems.{systemOf}
 use Rattle.line.specs.Timing.{timingWord, timingWords}
@@ -72,5 +73,5 @@ cases =
 
 -- each is printed as it is computed
 pub printed-is : map (λ (c : Case). c .computed) cases ≡ map (λ (c : Case). c .printed) cases
-unfolding cases words jump with-code headerWord byteWord wordOf timingWord timingWords xor numberWords settingsBytes settingsWords summedWords headerWords blockWords nextNumber folded
+unfolding cases words jump with-code headerWord byteWord wordOf timingWord timingWords xor numberWords settingsBytes settingsWords crcWords summedWords headerWords blockWords nextNumber folded
 printed-is = refl
