@@ -126,7 +126,7 @@ either Nothing stop on P a b = b
 either (Whole k n) stop on P a b = a
 either (Lost n) stop on P a b = a
 
-stored-long : (keeps : Bool) (m v : ℕ) (room : List ℕ) → length (stored keeps m v room) ≡ length room
+pub stored-long : (keeps : Bool) (m v : ℕ) (room : List ℕ) → length (stored keeps m v room) ≡ length room
 unfolding stored pick
 stored-long true m v room = length-set room m v
 stored-long false m v room = refl
@@ -157,7 +157,7 @@ walk-kept mode p (w ∷ ws) room =
     })
 
 -- ---- a walk over places
-laid-long : (met : Met) (vs room : List ℕ) → length vs ≤ length room → length (placeRoom met vs room) ≡ length room
+pub laid-long : (met : Met) (vs room : List ℕ) → length vs ≤ length room → length (placeRoom met vs room) ≡ length room
 laid-long Nothing vs room h = refl
 laid-long (Lost n) vs room h = refl
 laid-long (Whole k n) vs room h = let e = length-append vs (drop (length vs) room) in let d = length-drop (length vs) room in omega arith

@@ -14,6 +14,7 @@ use Rattle.lists.specs.Tests.{pick}
 use Rattle.lists.proofs.Tests.{pick-true, pick-false}
 use Rattle.course.specs.declared.Last.the-variants.{Number}
 use Rattle.line.specs.Systems.{systemOf}
+use Rattle.line.proofs.SystemLaws.{odd-lines}
 use Rattle.course.specs.Course.{nextNumber}
 use Rattle.reader.specs.declared.jump.Jump.{Jump}
 use Rattle.reader.specs.declared.jump.Jump.the-variants.{Unknown as NotKnown, Known}
@@ -173,13 +174,6 @@ module _ (lines h : ℕ) (odd : lines ≡ 2 * h + 1) (number : ℕ) (one : 1 ≤
 -- ---- the four systems
 pub halves : map (λ (system : ℕ). systemOf system .lines / 2) (0 ∷ 1 ∷ 2 ∷ 3 ∷ []) ≡ 262 ∷ 312 ∷ 262 ∷ 312 ∷ []
 halves = refl
-
-odd-lines : (system : ℕ) → 1 ≤ systemOf system .lines → systemOf system .lines ≡ 2 * (systemOf system .lines / 2) + 1
-odd-lines zero l = refl
-odd-lines (suc zero) l = refl
-odd-lines (suc (suc zero)) l = refl
-odd-lines (suc (suc (suc zero))) l = refl
-odd-lines (suc (suc (suc (suc n)))) l = absurd (omega arith)
 
 module _ (system number x : ℕ) (one : 1 ≤ number) (last : number ≤ systemOf system .lines) (least : 1 ≤ x) (most : x ≤ systemOf system .lines) where
   lines-odd : systemOf system .lines ≡ 2 * (systemOf system .lines / 2) + 1
