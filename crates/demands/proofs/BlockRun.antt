@@ -19,7 +19,7 @@ use Rattle.words.specs.Forms.{isData, isByte, dataWord, byteWord}
 use Rattle.words.specs.Modes.{values, wordOf, valueOf}
 use Rattle.words.specs.Class.{classOf, isCode, separator, endCode}
 use Rattle.words.specs.declared.class.Class.the-variants.{Byte, Other, Separator, Ending, Illegal}
-use Rattle.words.proofs.FormLaws.{byte-low, byte-in, data-in, byte-data, byte-of-low, value-back}
+use Rattle.words.proofs.FormLaws.{byte-low, data-in, byte-data, value-back}
 use Rattle.words.proofs.ClassLaws.{class-byte, code-not-data, code-class}
 use Rattle.machine.specs.declared.phase.Phase.{Phase}
 use Rattle.machine.specs.declared.phase.Phase.the-variants.{Idle, Kind, First, Second, Third, Fourth, Data}
@@ -31,7 +31,7 @@ use Rattle.machine.proofs.RunLaws.{collecting, data-class, value-kept}
 use Rattle.writer.specs.Block.{countWords, blockWords}
 use Rattle.writer.specs.State.{most}
 use Rattle.writer.specs.Adding.{valued}
-use Rattle.writer.proofs.Legal.{each-take, each-drop, each-filler}
+use Rattle.writer.proofs.Legal.{each-take, each-drop, each-filler, byte-any}
 use Rattle.demands.specs.Hearing.{Heard, is-block}
 use Rattle.demands.proofs.Run.{Now, now, idle, metHeard, stepTo, stepOut, runTo, runOut}
 use Rattle.demands.proofs.RunLaws.{run-to-append, run-out-append}
@@ -43,9 +43,6 @@ pub record Shaped (mode kind : ℕ) (vs : List ℕ) : Type 0 where
   pub values-fit : valued mode vs ≡ true
 
 -- ---- words of each kind
-pub byte-any : (v : ℕ) → isByte (byteWord v) ≡ true
-byte-any v = ap isByte (sym (byte-of-low v)) ∙ byte-in (v % 256) (omega arith)
-
 value-by : (m : Bool) (v : ℕ) → v < pick m 256 512 → isData (pick m (byteWord v) (dataWord v)) ≡ true
 unfolding pick
 value-by true v h = byte-data (byteWord v) (byte-any v)

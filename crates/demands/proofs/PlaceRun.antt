@@ -7,7 +7,7 @@ use mathlib.Core.Path.{_≡_, refl, sym, ap, ap₂, _∙_}
 use native.Mathlib.Nat.{suc-mul}
 use native.Mathlib.Omega.{arith}
 use lib.Dec.{ltb}
-use lib.ListN.{length, getD, take, drop, replicate, length-append, length-drop, length-map}
+use lib.ListN.{length, getD, take, drop, replicate, length-drop, length-map}
 use lib.Seq.{take-at, drop-at, take-take}
 use borrow.Author.Tests.{ltb-true}
 use Rattle.lists.specs.Tests.{pick}
@@ -19,17 +19,18 @@ use Rattle.words.specs.declared.class.Class.{Class}
 use Rattle.words.proofs.FormLaws.{byte-low, value-back}
 use Rattle.words.proofs.ClassLaws.{class-byte}
 use Rattle.machine.specs.declared.step.Met.{Met}
-use Rattle.machine.specs.declared.step.Met.the-variants.{Nothing, Whole, Lost}
+use Rattle.machine.specs.declared.step.Met.the-variants.{Nothing, Whole}
 use Rattle.machine.specs.Places.{placesIn, placeMet, metAt, placeRoom}
+use Rattle.machine.proofs.Kept.{laid-long}
 use Rattle.machine.proofs.PlaceLaws.{met-whole}
 use Rattle.writer.specs.Block.{fixedWords}
 use Rattle.writer.specs.Adding.{valued}
 use Rattle.writer.specs.Course.{joined}
+use Rattle.writer.proofs.Legal.{byte-any}
 use Rattle.writer.proofs.Framing.{take-filler, drop-filler}
 use Rattle.demands.specs.Hearing.{Heard, is-block}
 use Rattle.demands.proofs.Run.{metHeard, placeTo, placeOut, placesTo, placesOut}
 use Rattle.demands.proofs.DeskOk.{AllLong}
-use Rattle.demands.proofs.BlockRun.{byte-any}
 
 -- ---- a place that an addition laid
 met-given : (kind n : ℕ) → kind ≤ 255 → 1 ≤ kind → metAt (byteWord kind) n ≡ Whole kind n
@@ -58,11 +59,6 @@ place-given mode kind vs room h one e =
     (met-given kind (length ws) h one) (values-again mode vs e) (sym (length-map vs (wordOf mode)))
 
 -- ---- the room keeps its length
-laid-long : (met : Met) (vs room : List ℕ) → length vs ≤ length room → length (placeRoom met vs room) ≡ length room
-laid-long Nothing vs room h = refl
-laid-long (Lost n) vs room h = refl
-laid-long (Whole k n) vs room h = let e = length-append vs (drop (length vs) room) in let d = length-drop (length vs) room in omega arith
-
 pub place-room : (mode : ℕ) (x room : List ℕ) → length x ≤ suc (length room) → length (placeTo mode x room) ≡ length room
 unfolding placeTo
 place-room mode x room h =

@@ -1,14 +1,13 @@
 -- Laws of runs to the words' end: words in two parts, and the room's length.
 -- Assumes nothing.
 use Prim.Native.Nat.{ℕ}
-use mathlib.Core.Bool.{Bool, true, false}
 use mathlib.Core.List.{List, [], _∷_, _++_, append-assoc}
 use mathlib.Core.Path.{_≡_, refl, sym, ap, _∙_}
-use lib.ListN.{length, length-set}
-use Rattle.lists.specs.Tests.{pick}
+use lib.ListN.{length}
 use Rattle.words.specs.Modes.{valueOf}
 use Rattle.machine.specs.Machine.{stepOf}
-use Rattle.machine.specs.Walk.{collectedOf, stored}
+use Rattle.machine.specs.Walk.{collectedOf}
+use Rattle.machine.proofs.Kept.{stored-long}
 use Rattle.demands.specs.Hearing.{Heard}
 use Rattle.demands.proofs.Run.{Now, stepTo, stepOut, runTo, runOut}
 
@@ -25,11 +24,6 @@ run-out-append mode q (w ∷ xs) ys =
     ∙ sym (append-assoc (stepOut mode q w) (runOut mode next xs) (runOut mode (runTo mode next xs) ys))
 
 -- ---- the room keeps its length
-stored-long : (keeps : Bool) (m v : ℕ) (room : List ℕ) → length (stored keeps m v room) ≡ length room
-unfolding stored pick
-stored-long true m v room = length-set room m v
-stored-long false m v room = refl
-
 pub step-room : (mode : ℕ) (q : Now) (w : ℕ) → length (stepTo mode q w .room) ≡ length (q .room)
 unfolding stepTo
 step-room mode q w = stored-long (stepOf (length (q .room)) (q .phase) w .keeps) (collectedOf (q .phase)) (valueOf mode w) (q .room)

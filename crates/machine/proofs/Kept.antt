@@ -157,7 +157,7 @@ walk-kept mode p (w ∷ ws) room =
     })
 
 -- ---- a walk over places
-laid-long : (met : Met) (vs room : List ℕ) → length vs ≤ length room → length (placeRoom met vs room) ≡ length room
+pub laid-long : (met : Met) (vs room : List ℕ) → length vs ≤ length room → length (placeRoom met vs room) ≡ length room
 laid-long Nothing vs room h = refl
 laid-long (Lost n) vs room h = refl
 laid-long (Whole k n) vs room h = let e = length-append vs (drop (length vs) room) in let d = length-drop (length vs) room in omega arith

@@ -37,7 +37,7 @@ each-filler f zero x e = refl
 each-filler f (suc n) x e = ap₂ _&&_ e (each-filler f n x e)
 
 -- ---- words of each kind
-byte-any : (v : ℕ) → isByte (byteWord v) ≡ true
+pub byte-any : (v : ℕ) → isByte (byteWord v) ≡ true
 byte-any v = ap isByte (sym (byte-of-low v)) ∙ byte-in (v % 256) (omega arith)
 
 pub byte-legal : (mode : ℕ) (variable : Bool) (v : ℕ) → legal mode variable (byteWord v) ≡ true
