@@ -42,3 +42,4 @@ pub mod PCases
 pub mod DemandSamples
 pub mod NumberSamples
 pub mod DemandCited
+pub mod AreaAnswers

@@ -1,11 +1,12 @@
--- Each answer of the line check is reached on whole lines of the four systems, in one checked list with one claim. All of it is computed here, the
--- CRC of an area too; the reader's answer 2 and the writer's answers are not the line check's. 01's slips are listed in reader/proofs/Slips.
+-- The answers 1 and 3 to 14 of the line check are reached on whole lines of the four systems, in one checked list with one claim. Those for which
+-- the whole area is looked at, none, 15 and 16, are computed in demands/proofs/AreaAnswers, where nothing else has to wait for them. The
+-- reader's answer 2 and the writer's answers are not the line check's. 01's slips are listed in reader/proofs/Slips.
 -- Assumes nothing.
 use mathlib.Core.Bool.{Bool, true, false, _&&_}
 use mathlib.Core.List.{List, [], _∷_, _++_}
-use Prim.Native.Nat.{ℕ, suc, _-_}
+use Prim.Native.Nat.{ℕ, suc}
 use lib.Dec.{T, eqb}
-use lib.ListN.{length, take, drop, replicate}
+use lib.ListN.{take, drop, replicate}
 use Rattle.lists.specs.Tests.{pick}
 use Rattle.lists.specs.Lists.{part}
 use Rattle.words.specs.Forms.{byteWord, dataWord, isByte, isData}
@@ -22,7 +23,7 @@ use Rattle.line.specs.Layout.{areaLength, endWords, framed, areaOf, endO
 use Rattle.line.specs.Check.{legal, numberOf, settingsOf, timed, formed, crcStands, numbered, headFaults, areaFaults, payloadFaults, faults, fitsLength, lineFault}
 
 -- settings: code, AAI, block type, flag and the last reserved byte
-set : ℕ → ℕ → ℕ → ℕ → ℕ → Settings
+unfoldable pub set : ℕ → ℕ → ℕ → ℕ → ℕ → Settings
 set c a k f r =
     record {
       code = c;
@@ -34,24 +35,21 @@ set c a k f r =
       reserved = 0 ∷ 0 ∷ 0 ∷ 0 ∷ r ∷ [];
     }
 
-plain : Settings
+unfoldable pub plain : Settings
 plain = set 1 0 0xc1 0 0
 
-fixed : Settings
+unfoldable pub fixed : Settings
 fixed = set 1 0 0x21 0 0
 
-guarded : Settings
+unfoldable pub guarded : Settings
 guarded = set 1 0 0xc1 1 0
 
--- a line of that number and those settings, its payload all filler; and with those two words last
-line : ℕ → ℕ → Settings → List ℕ
+-- a line of that number and those settings, its payload all filler
+unfoldable pub line : ℕ → ℕ → Settings → List ℕ
 line system n s = framed (systemOf system) false true n s [] (replicate (systemOf system .payload) 0x200)
 
-ending : ℕ → ℕ → List ℕ → List ℕ
-ending a b l = take (length l - 2) l ++ (a ∷ b ∷ [])
-
 -- the word at index i changed to w
-put : ℕ → ℕ → List ℕ → List ℕ
+unfoldable pub put : ℕ → ℕ → List ℕ → List ℕ
 put i w l = take i l ++ (w ∷ drop (suc i) l)
 
 -- the checksum made right again; and the second number word changed, with all that covers it made right again
@@ -66,22 +64,17 @@ pub record Case : Type 0 where
   pub given : ℕ
   pub wanted : ℕ
 
-abbrev case : ℕ → ℕ → Case
+abbrev pub case : ℕ → ℕ → Case
 case g w = record { given = g; wanted = w }
 
-pub hold : List Case → Bool
+unfoldable pub hold : List Case → Bool
 hold [] = true
 hold (c ∷ cs) = eqb (c .given) (c .wanted) && hold cs
 
 pub answers : List Case
 answers =
-    -- none: each system and mode; a fixed block; with flag 01h and the CRC of 1,438 words of filler, which an independent program computed
-    case (lineFault 0 8 (line 0 1 plain)) 0 ∷ case (lineFault 1 9 (line 1 625 plain)) 0
-    ∷ case (lineFault 2 9 (line 2 525 (set 2 1 0x09 0 0))) 0 ∷ case (lineFault 3 8 (line 3 625 (set 2 0 0xc1 0 0))) 0
-    ∷ case (lineFault 0 9 (line 0 525 fixed)) 0
-    ∷ case (lineFault 0 8 (ending 0x1c0 0x21a (line 0 20 guarded))) 0
     -- 1: unknown system or mode; line not L long
-    ∷ case (lineFault 4 8 (line 0 1 plain)) 1 ∷ case (lineFault 0 10 (line 0 1 plain)) 1 ∷ case (lineFault 1 8 (line 0 1 plain)) 1 ∷ case (lineFault 0 8 []) 1
+    case (lineFault 4 8 (line 0 1 plain)) 1 ∷ case (lineFault 0 10 (line 0 1 plain)) 1 ∷ case (lineFault 1 8 (line 0 1 plain)) 1 ∷ case (lineFault 0 8 []) 1
     -- 3: EAV; SAV; F and V not those of EAV
     ∷ case (lineFault 0 8 (put 0 0x3fe (line 0 1 plain))) 3 ∷ case (lineFault 0 8 (put 274 0x001 (line 0 1 plain))) 3
     ∷ case (lineFault 0 8 (put 3 0x274 (line 0 1 plain))) 3
@@ -102,17 +95,11 @@ answers =
     ∷ case (lineFault 0 8 (line 0 1 (set 1 0 0x09 0 0))) 12 ∷ case (lineFault 1 8 (line 1 1 (set 1 0 0x49 0 0))) 12
     ∷ case (lineFault 0 8 (line 0 1 (set 1 0 0x37 1 0))) 12 ∷ case (lineFault 1 8 (line 1 1 (set 1 0 0x78 1 0))) 12
     ∷ case (lineFault 2 8 (line 2 1 (set 2 0 0x38 1 0))) 12
-    ∷ case (lineFault 0 8 (line 0 1 (set 1 0 0x37 0 0))) 0 ∷ case (lineFault 0 8 (line 0 1 (set 1 0 0x38 2 0))) 13
+    ∷ case (lineFault 0 8 (line 0 1 (set 1 0 0x38 2 0))) 13
     -- 13, 14
     ∷ case (lineFault 0 8 (line 0 1 (set 1 0 0xc1 2 0))) 13
-    ∷ case (lineFault 0 8 (line 0 1 (set 1 0 0xc1 0 1))) 14
-    -- 15: area word; 400h and above; 309h and 30Ah in variable lines only; a CRC word
-    ∷ case (lineFault 0 8 (put 276 0x000 (line 0 1 plain))) 15 ∷ case (lineFault 0 8 (put 1715 0x600 (line 0 1 plain))) 15
-    ∷ case (lineFault 0 8 (put 276 0x309 (line 0 1 plain))) 0 ∷ case (lineFault 0 8 (put 276 0x30a (line 0 1 fixed))) 15
-    ∷ case (lineFault 0 8 (put 1715 0x309 (line 0 1 guarded))) 15
-    -- 16
-    ∷ case (lineFault 0 8 (line 0 1 guarded)) 16 ∷ []
+    ∷ case (lineFault 0 8 (line 0 1 (set 1 0 0xc1 0 1))) 14 ∷ []
 
 pub they-hold : T (hold answers)
-unfolding hold answers set plain fixed guarded line ending put resum renumber pick isMode isSystem isByte isData byteWord dataWord checksum crcWords timingWord timingWords mathlib.Core.Bool.xor table fixedOf placesOf sizeOf fillsAll blockRefused settingsFaults numberWords settingsBytes settingsWords summedWords headerWords areaLength endWords framed areaOf endOf legal numberOf settingsOf timed formed crcStands numbered headFaults areaFaults payloadFaults faults fitsLength lineFault
+unfolding hold answers set plain line put resum renumber pick isMode isSystem isByte isData byteWord dataWord checksum crcWords timingWord timingWords mathlib.Core.Bool.xor table fixedOf placesOf sizeOf fillsAll blockRefused settingsFaults numberWords settingsBytes settingsWords summedWords headerWords areaLength endWords framed areaOf endOf legal numberOf settingsOf timed formed crcStands numbered headFaults areaFaults payloadFaults faults fitsLength lineFault
 they-hold = tt
