@@ -41,4 +41,5 @@ pub mod Demand3Holds
 pub mod PCases
 pub mod DemandSamples
 pub mod NumberSamples
+pub mod Demand1Cited
 pub mod DemandCited
