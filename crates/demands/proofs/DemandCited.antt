@@ -206,6 +206,20 @@ told-after-7 st line room fit shut last idle clean =
       (ap (λ (x : Answered). x .told .state .last) e, (ap (λ (x : Answered). x .told .state .settings) e, ap (λ (x : Answered). x .room) e)),
     )
 
+-- and behind a refused line, with AAI 1 kept
+pub told-after-none : (st : Reader) (line room : List ℕ) → readFault st (length line) (length room) ≡ 0 → st .place ≡ Shut → st .last ≡ Unknown → st .phase ≡ Idle
+    → st .settings .aai ≡ 1 → lineFault (st .system) (st .mode) line ≡ 0
+    → (reading st line room .told .event ≡ Begun (numberOf line) NotKnown false)
+    × ((reading st line room .told .state .last ≡ Number (numberOf line)) × (reading st line room .told .state .settings ≡ settingsOf line))
+unfolding begun
+told-after-none st line room fit shut last idle kept clean =
+    let e = demand-2 .told st line room fit shut clean .0 in
+    let n = numberOf line in (
+      ap (λ (x : Answered). x .told .event) e
+          ∙ ap₂ (λ (l : Last) (p : Phase). Begun n (jumpFrom (systemOf (st .system) .lines) l n) (isBusy p && not (goesOn st n (settingsOf line)))) last idle,
+      (ap (λ (x : Answered). x .told .state .last) e, ap (λ (x : Answered). x .told .state .settings) e),
+    )
+
 pub told-header : (st : Reader) (line room : List ℕ) → readFault st (length line) (length room) ≡ 0 → st .place ≡ Shut → lineFault (st .system) (st .mode) line ≡ 0
     → part 4 53 line ≡ headerWords (numberOf line) (settingsOf line)
 told-header st line room fit shut clean = demand-2 .told st line room fit shut clean .1

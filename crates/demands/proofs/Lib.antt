@@ -41,5 +41,6 @@ pub mod Demand3Holds
 pub mod PCases
 pub mod DemandSamples
 pub mod NumberSamples
+pub mod Demand1Cited
 pub mod DemandCited
 pub mod AreaAnswers
