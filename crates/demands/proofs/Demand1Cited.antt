@@ -5,10 +5,10 @@ use Prim.Native.Nat.{ℕ, _<_}
 use mathlib.Core.Bool.{Bool, true, false, _&&_, _||_, not}
 use mathlib.Core.Logic.{_⊎_, inr}
 use mathlib.Core.List.{List, [], _∷_, _++_, map}
-use mathlib.Core.Path.{_≡_, refl, sym, ap, _∙_, subst}
+use mathlib.Core.Path.{_≡_, refl, sym, ap, subst}
 use native.Mathlib.Omega.{arith}
 use lib.Dec.{eqb, leb}
-use lib.IntN.{ℤ, pos}
+use lib.IntN.{pos}
 use lib.ListN.{length, getD}
 use Rattle.lists.specs.Tests.{Refusal, rising, holdsAt}
 use Rattle.lists.specs.Lists.{same, each}
@@ -35,7 +35,6 @@ use Rattle.reader.specs.declared.state.Reader.{Reader}
 use Rattle.reader.specs.State.{impossibleIn}
 use Rattle.reader.specs.Events.{eventNumbers}
 use Rattle.reader.specs.Reading.{readFaultsIn, reading}
-use Rattle.demands.specs.Demand1.{IsLowest}
 use Rattle.demands.proofs.Demand1Holds.{demand-1}
 
 -- ---- one condition among others: the last of a list, and one before others that have another number
