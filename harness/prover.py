@@ -170,7 +170,7 @@ def short(error):
 
 
 def at_once(judge, todo):
-    """What judge says of each, as many at once as rt would take; a bad edit is said as what is wrong."""
+    """What judge says of each, one more at once than there are cores; a bad edit is said as what is wrong."""
 
     def safely(x):
         try:
@@ -178,5 +178,5 @@ def at_once(judge, todo):
         except (BadEdit, OSError, subprocess.SubprocessError) as error:
             return str(error), None
 
-    with ThreadPoolExecutor(int(os.environ.get("RT_JOBS", 0)) or min(4, os.cpu_count() or 1)) as pool:
+    with ThreadPoolExecutor(int(os.environ.get("RT_JOBS", 0)) or min(4, os.cpu_count() or 1) + 1) as pool:
         yield from zip(todo, pool.map(safely, todo))
