@@ -1,4 +1,5 @@
 pub mod Tests
+pub mod Needs
 pub mod Refusals
 pub mod Lists
 pub mod Loops

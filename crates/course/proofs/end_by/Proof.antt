@@ -1,4 +1,5 @@
 -- `course::end_by` meets its contract. Assumes nothing.
+use Rattle.lists.proofs.Needs.{need}
 use mathlib.Core.Path.{sym, ap, _∙_}
 use Prim.Native.Nat.{ℕ, _*_, _^_, _<_}
 use native.Mathlib.Omega.{arith}
@@ -9,27 +10,12 @@ use borrow.Author.Needs.{needs}
 use Rattle.course.proofs.end_by.Statement.{statement}
 use Rattle.course.proofs.end_by.Tie as tie
 
-is-variable-requires : tie.Need-is-variable-requires
-is-variable-requires c κs = search needs
-
-area-length-requires : tie.Need-area-length-requires
-area-length-requires c κs = search needs
-
 returns : tie.Need-returns
 returns c =
     let v = c .before .before in
     let s = v .before in
     let g = s .args in
     c .area-length .ensures .0 ∙ sym (pick-true _ _ (sym (v .is-variable .ensures) ∙ c .before .if1 .taken)) ∙ end-found (g .payload) (g .block) (g .flag) (g .row) (s .pre)
-
-places-in-requires : tie.Need-places-in-requires
-places-in-requires c κs = search needs
-
-cast-result : tie.Need-cast-result
-cast-result c = search needs
-
-cast-result-2 : tie.Need-cast-result-2
-cast-result-2 c = search needs
 
 mul-result : tie.Need-mul-result
 mul-result c =
@@ -49,13 +35,7 @@ returns-2 c =
 
 pub end-by-spec : {M : Type 1} → statement M
 end-by-spec =
-    tie.close
-    (tie.spec
-    is-variable-requires
-    area-length-requires
-    returns
-    places-in-requires
-    cast-result
-    cast-result-2
-    mul-result
-    returns-2)
+    tie.close (tie.spec
+    (need tie.Need-is-variable-requires (λ c κs. search needs)) (need tie.Need-area-length-requires (λ c κs. search needs)) returns
+    (need tie.Need-places-in-requires (λ c κs. search needs)) (need tie.Need-cast-result (λ c. search needs))
+    (need tie.Need-cast-result-2 (λ c. search needs)) mul-result returns-2)

@@ -1,4 +1,5 @@
 -- `course::look_after` meets its contract. Assumes nothing.
+use Rattle.lists.proofs.Needs.{need}
 use mathlib.Core.Path.{_≡_, sym, ap, _∙_}
 use mathlib.Core.Bool.{Bool, true, false, _&&_, _||_, not}
 use Prim.Native.Nat.{ℕ}
@@ -19,12 +20,6 @@ use Rattle.course.proofs.look_after.Tie as tie
 -- a bound by the system that was looked up
 bound : (s r : System) (x : ℕ) → s ≡ r → not (leb 1 x && leb x (s .lines)) ≡ not (leb 1 x && leb x (r .lines))
 bound s r x e = ap (λ (y : System). not (leb 1 x && leb x (y .lines))) e
-
-system-of-requires : tie.Need-system-of-requires
-system-of-requires c κs = search needs
-
-find-fault-requires : tie.Need-find-fault-requires
-find-fault-requires c κs = search needs
 
 looked-by-requires : tie.Need-looked-by-requires
 looked-by-requires c κs = c .before .before .before .find-fault .ensures .1
@@ -53,12 +48,6 @@ returns-2 c =
 
 end-by-requires : tie.Need-end-by-requires
 end-by-requires c κs = c .before .before .before .before .before .find-fault .ensures .1
-
-is-variable-requires : tie.Need-is-variable-requires
-is-variable-requires c κs = search needs
-
-misplaced-by-requires : tie.Need-misplaced-by-requires
-misplaced-by-requires c κs = search needs
 
 looked-by-requires-3 : tie.Need-looked-by-requires-3
 looked-by-requires-3 c κs = c .before .before .before .before .before .before .before .before .before .find-fault .ensures .1
@@ -101,9 +90,6 @@ returns-3 c =
       c .looked-by3 .ensures .2,
     )
 
-misplaced-by-requires-2 : tie.Need-misplaced-by-requires-2
-misplaced-by-requires-2 c κs = search needs
-
 looked-by-requires-4 : tie.Need-looked-by-requires-4
 looked-by-requires-4 c κs = c .before .before .before .before .before .before .before .before .before .find-fault .ensures .1
 
@@ -124,19 +110,8 @@ returns-4 c =
 
 pub look-after-spec : {M : Type 1} → statement M
 look-after-spec =
-    tie.close
-    (tie.spec
-    system-of-requires
-    find-fault-requires
-    looked-by-requires
-    returns
-    looked-by-requires-2
-    returns-2
-    end-by-requires
-    is-variable-requires
-    misplaced-by-requires
-    looked-by-requires-3
-    returns-3
-    misplaced-by-requires-2
-    looked-by-requires-4
-    returns-4)
+    tie.close (tie.spec
+    (need tie.Need-system-of-requires (λ c κs. search needs)) (need tie.Need-find-fault-requires (λ c κs. search needs)) looked-by-requires returns
+    looked-by-requires-2 returns-2 end-by-requires (need tie.Need-is-variable-requires (λ c κs. search needs))
+    (need tie.Need-misplaced-by-requires (λ c κs. search needs)) looked-by-requires-3 returns-3
+    (need tie.Need-misplaced-by-requires-2 (λ c κs. search needs)) looked-by-requires-4 returns-4)

@@ -1,4 +1,5 @@
 -- `listing::list_line` meets its contract. Assumes nothing.
+use Rattle.lists.proofs.Needs.{need}
 use Prim.Native.Nat.{_-_}
 use native.Mathlib.Omega.{arith}
 use borrow.Author.Needs.{needs}
@@ -15,16 +16,10 @@ abbrev μ-loop : tie.MeasureT-loop
 loop-holds : tie.Need-loop-holds Inv-loop μ-loop
 loop-holds c = lines-start _ _ _ _
 
-read-requires : tie.Need-read-requires Inv-loop μ-loop
-read-requires c κs = search needs
-
 put-row-requires : tie.Need-put-row-requires Inv-loop μ-loop
 put-row-requires c κs =
     let l = c .before .before .before .before .before .before .before .before .loop .inv in
     omega (arith, l .short, l .same-text, c .before .before .before .before .before .before .before .loop-test .taken, c .before .before .before .before .before .before .before .before .before .before .before .before .pre)
-
-goes-on-requires : tie.Need-goes-on-requires Inv-loop μ-loop
-goes-on-requires c κs = search needs
 
 add-calls : tie.Need-add-calls Inv-loop μ-loop
 add-calls c = omega (arith, c .before .before .before .before .before .before .before .before .before .before .before .loop-test .taken)
@@ -73,20 +68,7 @@ returns-2 c =
 
 pub list-line-spec : {M : Type 1} → statement M
 list-line-spec =
-    tie.close
-    (tie.spec
-    Inv-loop
-    μ-loop
-    loop-holds
-    read-requires
-    put-row-requires
-    goes-on-requires
-    add-calls
-    loop-less
-    loop-again
-    same-length
-    same-length-2
-    returns
-    same-length-3
-    same-length-4
-    returns-2)
+    tie.close (tie.spec
+    Inv-loop μ-loop loop-holds (need (tie.Need-read-requires Inv-loop μ-loop) (λ c κs. search needs)) put-row-requires
+    (need (tie.Need-goes-on-requires Inv-loop μ-loop) (λ c κs. search needs)) add-calls loop-less loop-again same-length same-length-2 returns
+    same-length-3 same-length-4 returns-2)

@@ -1,4 +1,5 @@
 -- `listing::put_bytes` meets its contract. Assumes nothing.
+use Rattle.lists.proofs.Needs.{need}
 use mathlib.Core.Path.{refl}
 use Prim.Native.Nat.{_-_}
 use native.Mathlib.Omega.{arith}
@@ -17,20 +18,11 @@ abbrev μ-loop : tie.MeasureT-loop
 loop-holds : tie.Need-loop-holds Inv-loop μ-loop
 loop-holds c = lay-start _ _ _ (c .pre)
 
-shared-slice-read-text : tie.Need-shared-slice-read-text Inv-loop μ-loop
-shared-slice-read-text c = search needs
-
 add-text : tie.Need-add-text Inv-loop μ-loop
 add-text c = omega (arith, c .before .before .loop .inv .same, c .before .before .loop .inv .fits, c .before .loop-test .taken)
 
 slice-write-text : tie.Need-slice-write-text Inv-loop μ-loop
 slice-write-text c = omega (arith, c .before .before .loop .inv .same, c .before .before .loop .inv .fits, c .before .loop-test .taken)
-
-add-i : tie.Need-add-i Inv-loop μ-loop
-add-i c = search needs
-
-loop-less : tie.Need-loop-less Inv-loop μ-loop
-loop-less c = search needs
 
 loop-again : tie.Need-loop-again Inv-loop μ-loop
 loop-again c = lay-turn _ _ _ _ _ _ (c .before .before .loop .inv) (c .before .loop-test .taken) refl
@@ -43,16 +35,7 @@ returns c = lay-end _ _ _ _ _ (c .before .loop .inv) (c .loop-test .left)
 
 pub put-bytes-spec : {M : Type 1} → statement M
 put-bytes-spec =
-    tie.close
-    (tie.spec
-    Inv-loop
-    μ-loop
-    loop-holds
-    shared-slice-read-text
-    add-text
-    slice-write-text
-    add-i
-    loop-less
-    loop-again
-    same-length
+    tie.close (tie.spec
+    Inv-loop μ-loop loop-holds (need (tie.Need-shared-slice-read-text Inv-loop μ-loop) (λ c. search needs)) add-text slice-write-text
+    (need (tie.Need-add-i Inv-loop μ-loop) (λ c. search needs)) (need (tie.Need-loop-less Inv-loop μ-loop) (λ c. search needs)) loop-again same-length
     returns)

@@ -1,4 +1,5 @@
 -- `listing::put_row` meets its contract. Assumes nothing.
+use Rattle.lists.proofs.Needs.{need}
 use mathlib.Core.Path.{_≡_, sym, subst}
 use Prim.Native.Nat.{_≤_}
 use native.Mathlib.Omega.{arith}
@@ -10,9 +11,6 @@ use Rattle.listing.proofs.TextLaws.{row-fits, row-long, row-laid}
 use borrow.Author.Needs.{needs}
 use Rattle.listing.proofs.put_row.Statement.{statement}
 use Rattle.listing.proofs.put_row.Tie as tie
-
-row-of-requires : tie.Need-row-of-requires
-row-of-requires c κs = search needs
 
 array-share-prefix-bytes : tie.Need-array-share-prefix-bytes
 array-share-prefix-bytes c = subst (λ (r : Row). r .length ≤ length (r .bytes)) (sym (c .before .row-of .ensures)) (inside (c .before .before .before .args .event))
@@ -32,9 +30,6 @@ add-result c =
     let long : length (r .result .bytes) ≡ 48 = search needs in
     omega (arith, c .before .before .before .before .before .before .before .before .pre, row-fits _ _ (r .ensures) long)
 
-same-length : tie.Need-same-length
-same-length c = search needs
-
 returns : tie.Need-returns
 returns c =
     let r = c .before .before .before .before .before .before .row-of in
@@ -43,12 +38,6 @@ returns c =
 
 pub put-row-spec : {M : Type 1} → statement M
 put-row-spec =
-    tie.close
-    (tie.spec
-    row-of-requires
-    array-share-prefix-bytes
-    slice-aggregate-put-bytes
-    put-bytes-requires
-    add-result
-    same-length
-    returns)
+    tie.close (tie.spec
+    (need tie.Need-row-of-requires (λ c κs. search needs)) array-share-prefix-bytes slice-aggregate-put-bytes put-bytes-requires add-result
+    (need tie.Need-same-length (λ c. search needs)) returns)

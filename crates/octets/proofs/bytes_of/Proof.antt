@@ -1,4 +1,5 @@
 -- `octets::bytes_of` meets its contract. Assumes nothing.
+use Rattle.lists.proofs.Needs.{need}
 use mathlib.Core.Path.{_≡_, refl, ap, ap₂, _∙_}
 use mathlib.Core.List.{List}
 use Prim.Native.Nat.{ℕ, _+_, _-_, _*_, _/_, _%_, _<_, _≤_, min}
@@ -18,53 +19,14 @@ Inv-loop words out₀ n i₀ out i = (i ≤ n) × (n ≡ min (length words) (len
 abbrev μ-loop : tie.MeasureT-loop
 μ-loop words out₀ n i₀ out i = n - i
 
-smaller-of-requires : tie.Need-smaller-of-requires Inv-loop μ-loop
-smaller-of-requires c κs = search needs
-
 loop-holds : tie.Need-loop-holds Inv-loop μ-loop
 loop-holds c = let a = c .before .before .before .args in (search needs, c .smaller-of .ensures, refl, paste-zero (now (a .out)) 0 (bytesOf (now (a .words))))
-
-mul-low : tie.Need-mul-low Inv-loop μ-loop
-mul-low c = search needs
-
-shared-slice-read-low : tie.Need-shared-slice-read-low Inv-loop μ-loop
-shared-slice-read-low c = search needs
-
-low-requires : tie.Need-low-requires Inv-loop μ-loop
-low-requires c κs = search needs
-
-mul-out : tie.Need-mul-out Inv-loop μ-loop
-mul-out c = search needs
-
-slice-write-out : tie.Need-slice-write-out Inv-loop μ-loop
-slice-write-out c = search needs
-
-mul-high : tie.Need-mul-high Inv-loop μ-loop
-mul-high c = search needs
-
-shared-slice-read-high : tie.Need-shared-slice-read-high Inv-loop μ-loop
-shared-slice-read-high c = search needs
-
-high-requires : tie.Need-high-requires Inv-loop μ-loop
-high-requires c κs = search needs
-
-mul-out-2 : tie.Need-mul-out-2 Inv-loop μ-loop
-mul-out-2 c = search needs
-
-add-out : tie.Need-add-out Inv-loop μ-loop
-add-out c = search needs
 
 slice-write-out-2 : tie.Need-slice-write-out-2 Inv-loop μ-loop
 slice-write-out-2 c =
     let l = c .before .before .before .before .before .loop in
     let room : 2 * l .i + 1 < length (l .out) = omega arith in
     rw (length-set (l .out) (2 * l .i) (c .before .before .low .result)) room
-
-add-i : tie.Need-add-i Inv-loop μ-loop
-add-i c = search needs
-
-loop-less : tie.Need-loop-less Inv-loop μ-loop
-loop-less c = search needs
 
 loop-again : tie.Need-loop-again Inv-loop μ-loop
 loop-again c =
@@ -82,9 +44,6 @@ loop-again c =
           ∙ next-two ws (now (a .out)) (l .i) inside room,
     )
 
-same-length : tie.Need-same-length Inv-loop μ-loop
-same-length c = search needs
-
 returns : tie.Need-returns Inv-loop μ-loop
 returns c =
     let l = c .before .loop in
@@ -94,25 +53,13 @@ returns c =
 
 pub bytes-of-spec : {M : Type 1} → statement M
 bytes-of-spec =
-    tie.close
-    (tie.spec
-    Inv-loop
-    μ-loop
-    smaller-of-requires
-    loop-holds
-    mul-low
-    shared-slice-read-low
-    low-requires
-    mul-out
-    slice-write-out
-    mul-high
-    shared-slice-read-high
-    high-requires
-    mul-out-2
-    add-out
-    slice-write-out-2
-    add-i
-    loop-less
-    loop-again
-    same-length
+    tie.close (tie.spec
+    Inv-loop μ-loop (need (tie.Need-smaller-of-requires Inv-loop μ-loop) (λ c κs. search needs)) loop-holds
+    (need (tie.Need-mul-low Inv-loop μ-loop) (λ c. search needs)) (need (tie.Need-shared-slice-read-low Inv-loop μ-loop) (λ c. search needs))
+    (need (tie.Need-low-requires Inv-loop μ-loop) (λ c κs. search needs)) (need (tie.Need-mul-out Inv-loop μ-loop) (λ c. search needs))
+    (need (tie.Need-slice-write-out Inv-loop μ-loop) (λ c. search needs)) (need (tie.Need-mul-high Inv-loop μ-loop) (λ c. search needs))
+    (need (tie.Need-shared-slice-read-high Inv-loop μ-loop) (λ c. search needs))
+    (need (tie.Need-high-requires Inv-loop μ-loop) (λ c κs. search needs)) (need (tie.Need-mul-out-2 Inv-loop μ-loop) (λ c. search needs))
+    (need (tie.Need-add-out Inv-loop μ-loop) (λ c. search needs)) slice-write-out-2 (need (tie.Need-add-i Inv-loop μ-loop) (λ c. search needs))
+    (need (tie.Need-loop-less Inv-loop μ-loop) (λ c. search needs)) loop-again (need (tie.Need-same-length Inv-loop μ-loop) (λ c. search needs))
     returns)

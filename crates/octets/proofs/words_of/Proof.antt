@@ -1,4 +1,5 @@
 -- `octets::words_of` meets its contract. Assumes nothing.
+use Rattle.lists.proofs.Needs.{need}
 use mathlib.Core.Path.{_≡_, refl, sym, ap, ap₂, _∙_}
 use mathlib.Core.List.{List}
 use Prim.Native.Nat.{ℕ, _+_, _-_, _/_, _<_, _≤_, min}
@@ -20,41 +21,8 @@ Inv-loop bytes out₀ n i₀ out i = (i ≤ n) × (n ≡ min (length bytes / 2) 
 abbrev μ-loop : tie.MeasureT-loop
 μ-loop bytes out₀ n i₀ out i = n - i
 
-smaller-of-requires : tie.Need-smaller-of-requires Inv-loop μ-loop
-smaller-of-requires c κs = search needs
-
 loop-holds : tie.Need-loop-holds Inv-loop μ-loop
 loop-holds c = let a = c .before .before .before .args in (search needs, c .smaller-of .ensures, refl, paste-zero (now (a .out)) 0 (wordsOf (now (a .bytes))))
-
-mul-joined : tie.Need-mul-joined Inv-loop μ-loop
-mul-joined c = search needs
-
-shared-slice-read-joined : tie.Need-shared-slice-read-joined Inv-loop μ-loop
-shared-slice-read-joined c = search needs
-
-mul-joined-2 : tie.Need-mul-joined-2 Inv-loop μ-loop
-mul-joined-2 c = search needs
-
-add-joined : tie.Need-add-joined Inv-loop μ-loop
-add-joined c = search needs
-
-shared-slice-read-joined-2 : tie.Need-shared-slice-read-joined-2 Inv-loop μ-loop
-shared-slice-read-joined-2 c = search needs
-
-joined-requires : tie.Need-joined-requires Inv-loop μ-loop
-joined-requires c κs = search needs
-
-mul-out : tie.Need-mul-out Inv-loop μ-loop
-mul-out c = search needs
-
-slice-write-out : tie.Need-slice-write-out Inv-loop μ-loop
-slice-write-out c = search needs
-
-add-i : tie.Need-add-i Inv-loop μ-loop
-add-i c = search needs
-
-loop-less : tie.Need-loop-less Inv-loop μ-loop
-loop-less c = search needs
 
 loop-again : tie.Need-loop-again Inv-loop μ-loop
 loop-again c =
@@ -73,9 +41,6 @@ loop-again c =
           ∙ ap (paste (now (a .out)) 0 ws) (sym (add-one (l .i))),
     )
 
-same-length : tie.Need-same-length Inv-loop μ-loop
-same-length c = search needs
-
 returns : tie.Need-returns Inv-loop μ-loop
 returns c =
     let l = c .before .loop in
@@ -85,22 +50,12 @@ returns c =
 
 pub words-of-spec : {M : Type 1} → statement M
 words-of-spec =
-    tie.close
-    (tie.spec
-    Inv-loop
-    μ-loop
-    smaller-of-requires
-    loop-holds
-    mul-joined
-    shared-slice-read-joined
-    mul-joined-2
-    add-joined
-    shared-slice-read-joined-2
-    joined-requires
-    mul-out
-    slice-write-out
-    add-i
-    loop-less
-    loop-again
-    same-length
+    tie.close (tie.spec
+    Inv-loop μ-loop (need (tie.Need-smaller-of-requires Inv-loop μ-loop) (λ c κs. search needs)) loop-holds
+    (need (tie.Need-mul-joined Inv-loop μ-loop) (λ c. search needs)) (need (tie.Need-shared-slice-read-joined Inv-loop μ-loop) (λ c. search needs))
+    (need (tie.Need-mul-joined-2 Inv-loop μ-loop) (λ c. search needs)) (need (tie.Need-add-joined Inv-loop μ-loop) (λ c. search needs))
+    (need (tie.Need-shared-slice-read-joined-2 Inv-loop μ-loop) (λ c. search needs))
+    (need (tie.Need-joined-requires Inv-loop μ-loop) (λ c κs. search needs)) (need (tie.Need-mul-out Inv-loop μ-loop) (λ c. search needs))
+    (need (tie.Need-slice-write-out Inv-loop μ-loop) (λ c. search needs)) (need (tie.Need-add-i Inv-loop μ-loop) (λ c. search needs))
+    (need (tie.Need-loop-less Inv-loop μ-loop) (λ c. search needs)) loop-again (need (tie.Need-same-length Inv-loop μ-loop) (λ c. search needs))
     returns)

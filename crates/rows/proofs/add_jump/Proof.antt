@@ -1,4 +1,5 @@
 -- `rows::add_jump` meets its contract. Assumes nothing.
+use Rattle.lists.proofs.Needs.{need}
 use mathlib.Core.Path.{sym, ap, ap₂, _∙_}
 use mathlib.Core.List.{_++_}
 use lib.IntN.{ℤ}
@@ -13,24 +14,6 @@ use Rattle.rows.specs.Cuts.{added}
 use borrow.Author.Needs.{needs}
 use Rattle.rows.proofs.add_jump.Statement.{statement}
 use Rattle.rows.proofs.add_jump.Tie as tie
-
-add-byte-requires : tie.Need-add-byte-requires
-add-byte-requires c κs = search needs
-
-enum-told : tie.Need-enum-told
-enum-told c = search needs
-
-slice-aggregate-add-text : tie.Need-slice-aggregate-add-text
-slice-aggregate-add-text c = search needs
-
-add-text-requires : tie.Need-add-text-requires
-add-text-requires c κs = search needs
-
-enum-known-jump : tie.Need-enum-known-jump
-enum-known-jump c = search needs
-
-add-signed-requires : tie.Need-add-signed-requires
-add-signed-requires c κs = search needs
 
 returns : tie.Need-returns
 returns c =
@@ -50,13 +33,7 @@ returns-2 c =
 
 pub add-jump-spec : {M : Type 1} → statement M
 add-jump-spec =
-    tie.close
-    (tie.spec
-    add-byte-requires
-    enum-told
-    slice-aggregate-add-text
-    add-text-requires
-    enum-known-jump
-    add-signed-requires
-    returns
-    returns-2)
+    tie.close (tie.spec
+    (need tie.Need-add-byte-requires (λ c κs. search needs)) (need tie.Need-enum-told (λ c. search needs))
+    (need tie.Need-slice-aggregate-add-text (λ c. search needs)) (need tie.Need-add-text-requires (λ c κs. search needs))
+    (need tie.Need-enum-known-jump (λ c. search needs)) (need tie.Need-add-signed-requires (λ c κs. search needs)) returns returns-2)

@@ -1,4 +1,5 @@
 -- `rows::add_signed` meets its contract. Assumes nothing.
+use Rattle.lists.proofs.Needs.{need}
 use mathlib.Core.Path.{_≡_, refl, sym, ap, ap₂, subst, _∙_}
 use mathlib.Core.Bool.{true, false}
 use mathlib.Core.List.{_∷_}
@@ -26,15 +27,6 @@ not-below : (z : ℤ) → ltZ z (pos 0) ≡ false → signed z ≡ decimal (natA
 not-below (pos n) e = refl
 not-below (negsuc n) e = absurd (subst T e tt)
 
-add-byte-requires : tie.Need-add-byte-requires
-add-byte-requires c κs = search needs
-
-size-requires : tie.Need-size-requires
-size-requires c κs = search needs
-
-add-decimal-requires : tie.Need-add-decimal-requires
-add-decimal-requires c κs = search needs
-
 returns : tie.Need-returns
 returns c =
     let s = c .before .before .before .before in
@@ -42,12 +34,6 @@ returns c =
     c .add-decimal .ensures
     ∙ ap₂ (λ (r : Row) (n : ℕ). added r (decimal n)) (c .before .before .add-byte .ensures) (c .before .size .ensures)
     ∙ ap (added (s .args .row)) (sym (below z (c .before .before .before .if1 .taken)) ∙ ap signed (toZ-ofZ (s .fits .d)))
-
-size-requires-2 : tie.Need-size-requires-2
-size-requires-2 c κs = search needs
-
-add-decimal-requires-2 : tie.Need-add-decimal-requires-2
-add-decimal-requires-2 c κs = search needs
 
 returns-2 : tie.Need-returns-2
 returns-2 c =
@@ -59,12 +45,7 @@ returns-2 c =
 
 pub add-signed-spec : {M : Type 1} → statement M
 add-signed-spec =
-    tie.close
-    (tie.spec
-    add-byte-requires
-    size-requires
-    add-decimal-requires
-    returns
-    size-requires-2
-    add-decimal-requires-2
-    returns-2)
+    tie.close (tie.spec
+    (need tie.Need-add-byte-requires (λ c κs. search needs)) (need tie.Need-size-requires (λ c κs. search needs))
+    (need tie.Need-add-decimal-requires (λ c κs. search needs)) returns (need tie.Need-size-requires-2 (λ c κs. search needs))
+    (need tie.Need-add-decimal-requires-2 (λ c κs. search needs)) returns-2)

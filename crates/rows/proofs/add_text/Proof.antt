@@ -1,4 +1,5 @@
 -- `rows::add_text` meets its contract. Assumes nothing.
+use Rattle.lists.proofs.Needs.{need}
 use mathlib.Core.Path.{_≡_, refl, sym, ap, _∙_}
 use Prim.Native.Nat.{_+_, _-_, _≤_}
 use denote.Ref.{now}
@@ -19,18 +20,6 @@ abbrev μ-loop : tie.MeasureT-loop
 loop-holds : tie.Need-loop-holds Inv-loop μ-loop
 loop-holds c = (search needs, refl)
 
-shared-slice-read-add-byte : tie.Need-shared-slice-read-add-byte Inv-loop μ-loop
-shared-slice-read-add-byte c = search needs
-
-add-byte-requires : tie.Need-add-byte-requires Inv-loop μ-loop
-add-byte-requires c κs = search needs
-
-add-i : tie.Need-add-i Inv-loop μ-loop
-add-i c = search needs
-
-loop-less : tie.Need-loop-less Inv-loop μ-loop
-loop-less c = search needs
-
 loop-again : tie.Need-loop-again Inv-loop μ-loop
 loop-again c =
     let l = c .before .before .before .loop in
@@ -46,14 +35,7 @@ returns c =
 
 pub add-text-spec : {M : Type 1} → statement M
 add-text-spec =
-    tie.close
-    (tie.spec
-    Inv-loop
-    μ-loop
-    loop-holds
-    shared-slice-read-add-byte
-    add-byte-requires
-    add-i
-    loop-less
-    loop-again
-    returns)
+    tie.close (tie.spec
+    Inv-loop μ-loop loop-holds (need (tie.Need-shared-slice-read-add-byte Inv-loop μ-loop) (λ c. search needs))
+    (need (tie.Need-add-byte-requires Inv-loop μ-loop) (λ c κs. search needs)) (need (tie.Need-add-i Inv-loop μ-loop) (λ c. search needs))
+    (need (tie.Need-loop-less Inv-loop μ-loop) (λ c. search needs)) loop-again returns)

@@ -1,4 +1,5 @@
 -- `heard::calls::calls` is safe and ends. Assumes nothing.
+use Rattle.lists.proofs.Needs.{need}
 use lib.ListN.{length}
 use mathlib.Core.Path.{_≡_}
 use borrow.Author.Needs.{needs}
@@ -11,45 +12,11 @@ Inv-loop rd₀ times line room₀ left₀ rd room left = length room ≡ length 
 abbrev μ-loop : tie.MeasureT-loop
 μ-loop rd₀ times line room₀ left₀ rd room left = left
 
-loop-holds : tie.Need-loop-holds Inv-loop μ-loop
-loop-holds c = search needs
-
-call-requires : tie.Need-call-requires Inv-loop μ-loop
-call-requires c κs = search needs
-
-same-length : tie.Need-same-length Inv-loop μ-loop
-same-length c = search needs
-
-returns : tie.Need-returns Inv-loop μ-loop
-returns c = search needs
-
-sub-left : tie.Need-sub-left Inv-loop μ-loop
-sub-left c = search needs
-
-loop-less : tie.Need-loop-less Inv-loop μ-loop
-loop-less c = search needs
-
-loop-again : tie.Need-loop-again Inv-loop μ-loop
-loop-again c = search needs
-
-same-length-2 : tie.Need-same-length-2 Inv-loop μ-loop
-same-length-2 c = search needs
-
-returns-2 : tie.Need-returns-2 Inv-loop μ-loop
-returns-2 c = search needs
-
 pub calls-spec : {M : Type 1} → statement M
 calls-spec =
-    tie.close
-    (tie.spec
-    Inv-loop
-    μ-loop
-    loop-holds
-    call-requires
-    same-length
-    returns
-    sub-left
-    loop-less
-    loop-again
-    same-length-2
-    returns-2)
+    tie.close (tie.spec
+    Inv-loop μ-loop (need (tie.Need-loop-holds Inv-loop μ-loop) (λ c. search needs))
+    (need (tie.Need-call-requires Inv-loop μ-loop) (λ c κs. search needs)) (need (tie.Need-same-length Inv-loop μ-loop) (λ c. search needs))
+    (need (tie.Need-returns Inv-loop μ-loop) (λ c. search needs)) (need (tie.Need-sub-left Inv-loop μ-loop) (λ c. search needs))
+    (need (tie.Need-loop-less Inv-loop μ-loop) (λ c. search needs)) (need (tie.Need-loop-again Inv-loop μ-loop) (λ c. search needs))
+    (need (tie.Need-same-length-2 Inv-loop μ-loop) (λ c. search needs)) (need (tie.Need-returns-2 Inv-loop μ-loop) (λ c. search needs)))

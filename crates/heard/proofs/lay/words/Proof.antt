@@ -1,4 +1,5 @@
 -- `heard::lay::words` is safe and ends. Assumes nothing.
+use Rattle.lists.proofs.Needs.{need}
 use Prim.Native.Nat.{_≤_, _-_}
 use lib.ListN.{length}
 use mathlib.Core.Path.{_≡_}
@@ -12,53 +13,12 @@ Inv-loop out₀ ns i₀ out i = (i ≤ length out₀) × (length out ≡ length 
 abbrev μ-loop : tie.MeasureT-loop
 μ-loop out₀ ns i₀ out i = length out₀ - i
 
-loop-holds : tie.Need-loop-holds Inv-loop μ-loop
-loop-holds c = search needs
-
-add-at : tie.Need-add-at Inv-loop μ-loop
-add-at c = search needs
-
-at-requires : tie.Need-at-requires Inv-loop μ-loop
-at-requires c κs = search needs
-
-word-requires : tie.Need-word-requires Inv-loop μ-loop
-word-requires c κs = search needs
-
-mul-out : tie.Need-mul-out Inv-loop μ-loop
-mul-out c = search needs
-
-slice-write-out : tie.Need-slice-write-out Inv-loop μ-loop
-slice-write-out c = search needs
-
-add-i : tie.Need-add-i Inv-loop μ-loop
-add-i c = search needs
-
-loop-less : tie.Need-loop-less Inv-loop μ-loop
-loop-less c = search needs
-
-loop-again : tie.Need-loop-again Inv-loop μ-loop
-loop-again c = search needs
-
-same-length : tie.Need-same-length Inv-loop μ-loop
-same-length c = search needs
-
-returns : tie.Need-returns Inv-loop μ-loop
-returns c = search needs
-
 pub words-spec : {M : Type 1} → statement M
 words-spec =
-    tie.close
-    (tie.spec
-    Inv-loop
-    μ-loop
-    loop-holds
-    add-at
-    at-requires
-    word-requires
-    mul-out
-    slice-write-out
-    add-i
-    loop-less
-    loop-again
-    same-length
-    returns)
+    tie.close (tie.spec
+    Inv-loop μ-loop (need (tie.Need-loop-holds Inv-loop μ-loop) (λ c. search needs)) (need (tie.Need-add-at Inv-loop μ-loop) (λ c. search needs))
+    (need (tie.Need-at-requires Inv-loop μ-loop) (λ c κs. search needs)) (need (tie.Need-word-requires Inv-loop μ-loop) (λ c κs. search needs))
+    (need (tie.Need-mul-out Inv-loop μ-loop) (λ c. search needs)) (need (tie.Need-slice-write-out Inv-loop μ-loop) (λ c. search needs))
+    (need (tie.Need-add-i Inv-loop μ-loop) (λ c. search needs)) (need (tie.Need-loop-less Inv-loop μ-loop) (λ c. search needs))
+    (need (tie.Need-loop-again Inv-loop μ-loop) (λ c. search needs)) (need (tie.Need-same-length Inv-loop μ-loop) (λ c. search needs))
+    (need (tie.Need-returns Inv-loop μ-loop) (λ c. search needs)))

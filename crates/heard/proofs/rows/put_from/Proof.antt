@@ -1,4 +1,5 @@
 -- `heard::rows::put_from` is safe and ends. Assumes nothing.
+use Rattle.lists.proofs.Needs.{need}
 use Prim.Native.Nat.{_≤_, _-_}
 use borrow.Author.Needs.{needs}
 use Rattle.heard.proofs.rows.put_from.Statement.{statement}
@@ -10,37 +11,10 @@ Inv-loop s from to i₀ i = from ≤ i
 abbrev μ-loop : tie.MeasureT-loop
 μ-loop s from to i₀ i = to - i
 
-loop-holds : tie.Need-loop-holds Inv-loop μ-loop
-loop-holds c = search needs
-
-at-requires : tie.Need-at-requires Inv-loop μ-loop
-at-requires c κs = search needs
-
-put-requires : tie.Need-put-requires Inv-loop μ-loop
-put-requires c κs = search needs
-
-add-i : tie.Need-add-i Inv-loop μ-loop
-add-i c = search needs
-
-loop-less : tie.Need-loop-less Inv-loop μ-loop
-loop-less c = search needs
-
-loop-again : tie.Need-loop-again Inv-loop μ-loop
-loop-again c = search needs
-
-returns : tie.Need-returns Inv-loop μ-loop
-returns c = search needs
-
 pub put-from-spec : {M : Type 1} → statement M
 put-from-spec =
-    tie.close
-    (tie.spec
-    Inv-loop
-    μ-loop
-    loop-holds
-    at-requires
-    put-requires
-    add-i
-    loop-less
-    loop-again
-    returns)
+    tie.close (tie.spec
+    Inv-loop μ-loop (need (tie.Need-loop-holds Inv-loop μ-loop) (λ c. search needs))
+    (need (tie.Need-at-requires Inv-loop μ-loop) (λ c κs. search needs)) (need (tie.Need-put-requires Inv-loop μ-loop) (λ c κs. search needs))
+    (need (tie.Need-add-i Inv-loop μ-loop) (λ c. search needs)) (need (tie.Need-loop-less Inv-loop μ-loop) (λ c. search needs))
+    (need (tie.Need-loop-again Inv-loop μ-loop) (λ c. search needs)) (need (tie.Need-returns Inv-loop μ-loop) (λ c. search needs)))

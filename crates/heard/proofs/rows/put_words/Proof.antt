@@ -1,4 +1,5 @@
 -- `heard::rows::put_words` is safe and ends. Assumes nothing.
+use Rattle.lists.proofs.Needs.{need}
 use Prim.Native.Nat.{_≤_, _-_}
 use lib.ListN.{length}
 use borrow.Author.Needs.{needs}
@@ -11,45 +12,11 @@ Inv-loop s i₀ i = i ≤ length s
 abbrev μ-loop : tie.MeasureT-loop
 μ-loop s i₀ i = length s - i
 
-loop-holds : tie.Need-loop-holds Inv-loop μ-loop
-loop-holds c = search needs
-
-mul-wide : tie.Need-mul-wide Inv-loop μ-loop
-mul-wide c = search needs
-
-shared-slice-read-wide : tie.Need-shared-slice-read-wide Inv-loop μ-loop
-shared-slice-read-wide c = search needs
-
-wide-requires : tie.Need-wide-requires Inv-loop μ-loop
-wide-requires c κs = search needs
-
-put-requires : tie.Need-put-requires Inv-loop μ-loop
-put-requires c κs = search needs
-
-add-i : tie.Need-add-i Inv-loop μ-loop
-add-i c = search needs
-
-loop-less : tie.Need-loop-less Inv-loop μ-loop
-loop-less c = search needs
-
-loop-again : tie.Need-loop-again Inv-loop μ-loop
-loop-again c = search needs
-
-returns : tie.Need-returns Inv-loop μ-loop
-returns c = search needs
-
 pub put-words-spec : {M : Type 1} → statement M
 put-words-spec =
-    tie.close
-    (tie.spec
-    Inv-loop
-    μ-loop
-    loop-holds
-    mul-wide
-    shared-slice-read-wide
-    wide-requires
-    put-requires
-    add-i
-    loop-less
-    loop-again
-    returns)
+    tie.close (tie.spec
+    Inv-loop μ-loop (need (tie.Need-loop-holds Inv-loop μ-loop) (λ c. search needs)) (need (tie.Need-mul-wide Inv-loop μ-loop) (λ c. search needs))
+    (need (tie.Need-shared-slice-read-wide Inv-loop μ-loop) (λ c. search needs))
+    (need (tie.Need-wide-requires Inv-loop μ-loop) (λ c κs. search needs)) (need (tie.Need-put-requires Inv-loop μ-loop) (λ c κs. search needs))
+    (need (tie.Need-add-i Inv-loop μ-loop) (λ c. search needs)) (need (tie.Need-loop-less Inv-loop μ-loop) (λ c. search needs))
+    (need (tie.Need-loop-again Inv-loop μ-loop) (λ c. search needs)) (need (tie.Need-returns Inv-loop μ-loop) (λ c. search needs)))

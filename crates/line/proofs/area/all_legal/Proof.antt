@@ -1,4 +1,5 @@
 -- `line::area::all_legal` meets its contract. Assumes nothing.
+use Rattle.lists.proofs.Needs.{need}
 use Prim.Native.Nat.{_-_}
 use lib.ListN.{length}
 use Rattle.lists.proofs.Loops.{Testing, test-start, test-turn, test-end}
@@ -16,21 +17,6 @@ abbrev μ-loop : tie.MeasureT-loop
 loop-holds : tie.Need-loop-holds Inv-loop μ-loop
 loop-holds c = test-start _ _
 
-mul-is-legal : tie.Need-mul-is-legal Inv-loop μ-loop
-mul-is-legal c = search needs
-
-shared-slice-read-is-legal : tie.Need-shared-slice-read-is-legal Inv-loop μ-loop
-shared-slice-read-is-legal c = search needs
-
-is-legal-requires : tie.Need-is-legal-requires Inv-loop μ-loop
-is-legal-requires c κs = search needs
-
-add-i : tie.Need-add-i Inv-loop μ-loop
-add-i c = search needs
-
-loop-less : tie.Need-loop-less Inv-loop μ-loop
-loop-less c = search needs
-
 loop-again : tie.Need-loop-again Inv-loop μ-loop
 loop-again c =
     let a = c .before .before .before .before .before .args in
@@ -43,15 +29,8 @@ returns c =
 
 pub all-legal-spec : {M : Type 1} → statement M
 all-legal-spec =
-    tie.close
-    (tie.spec
-    Inv-loop
-    μ-loop
-    loop-holds
-    mul-is-legal
-    shared-slice-read-is-legal
-    is-legal-requires
-    add-i
-    loop-less
-    loop-again
-    returns)
+    tie.close (tie.spec
+    Inv-loop μ-loop loop-holds (need (tie.Need-mul-is-legal Inv-loop μ-loop) (λ c. search needs))
+    (need (tie.Need-shared-slice-read-is-legal Inv-loop μ-loop) (λ c. search needs))
+    (need (tie.Need-is-legal-requires Inv-loop μ-loop) (λ c κs. search needs)) (need (tie.Need-add-i Inv-loop μ-loop) (λ c. search needs))
+    (need (tie.Need-loop-less Inv-loop μ-loop) (λ c. search needs)) loop-again returns)

@@ -1,4 +1,5 @@
 -- `line::area::area_fault` meets its contract. Assumes nothing.
+use Rattle.lists.proofs.Needs.{need}
 use mathlib.Core.Path.{ap, ap₂}
 use mathlib.Core.Bool.{_&&_, not}
 use denote.Ref.{now}
@@ -7,21 +8,6 @@ use Rattle.line.specs.Check.{areaFaults}
 use borrow.Author.Needs.{needs}
 use Rattle.line.proofs.area.area_fault.Statement.{statement}
 use Rattle.line.proofs.area.area_fault.Tie as tie
-
-all-legal-requires : tie.Need-all-legal-requires
-all-legal-requires c κs = search needs
-
-all-data-requires : tie.Need-all-data-requires
-all-data-requires c κs = search needs
-
-end-stands-requires : tie.Need-end-stands-requires
-end-stands-requires c κs = search needs
-
-or-else-requires : tie.Need-or-else-requires
-or-else-requires c κs = search needs
-
-or-else-requires-2 : tie.Need-or-else-requires-2
-or-else-requires-2 c κs = search needs
 
 returns : tie.Need-returns
 unfolding areaFaults
@@ -33,11 +19,7 @@ returns c =
 
 pub area-fault-spec : {M : Type 1} → statement M
 area-fault-spec =
-    tie.close
-    (tie.spec
-    all-legal-requires
-    all-data-requires
-    end-stands-requires
-    or-else-requires
-    or-else-requires-2
-    returns)
+    tie.close (tie.spec
+    (need tie.Need-all-legal-requires (λ c κs. search needs)) (need tie.Need-all-data-requires (λ c κs. search needs))
+    (need tie.Need-end-stands-requires (λ c κs. search needs)) (need tie.Need-or-else-requires (λ c κs. search needs))
+    (need tie.Need-or-else-requires-2 (λ c κs. search needs)) returns)

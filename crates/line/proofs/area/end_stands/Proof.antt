@@ -1,4 +1,5 @@
 -- `line::area::end_stands` meets its contract. Assumes nothing.
+use Rattle.lists.proofs.Needs.{need}
 use mathlib.Core.Path.{sym, ap, _∙_}
 use borrow.Author.Tests.{eq-eqb, ne-eqb}
 use Rattle.lists.proofs.Tests.{pick-true, pick-false}
@@ -11,27 +12,9 @@ use borrow.Author.Needs.{needs}
 use Rattle.line.proofs.area.end_stands.Statement.{statement}
 use Rattle.line.proofs.area.end_stands.Tie as tie
 
-slice-aggregate-same-words : tie.Need-slice-aggregate-same-words
-slice-aggregate-same-words c = search needs
-
-same-words-requires : tie.Need-same-words-requires
-same-words-requires c κs = search needs
-
 returns : tie.Need-returns
 unfolding endWords
 returns c = c .same-words .ensures ∙ ap (same (now (c .before .before .before .before .before .args .end))) (sym (pick-false (crcWords (now (c .before .before .before .before .before .args .area))) [] (ne-eqb (c .before .before .before .before .before .args .flag) 1 (c .before .before .if1 .taken))))
-
-crc-of-requires : tie.Need-crc-of-requires
-crc-of-requires c κs = search needs
-
-crc-words-requires : tie.Need-crc-words-requires
-crc-words-requires c κs = search needs
-
-slice-aggregate-same-words-2 : tie.Need-slice-aggregate-same-words-2
-slice-aggregate-same-words-2 c = search needs
-
-same-words-requires-2 : tie.Need-same-words-requires-2
-same-words-requires-2 c κs = search needs
 
 returns-2 : tie.Need-returns-2
 unfolding endWords crcWords
@@ -45,13 +28,7 @@ returns-2 c =
 
 pub end-stands-spec : {M : Type 1} → statement M
 end-stands-spec =
-    tie.close
-    (tie.spec
-    slice-aggregate-same-words
-    same-words-requires
-    returns
-    crc-of-requires
-    crc-words-requires
-    slice-aggregate-same-words-2
-    same-words-requires-2
-    returns-2)
+    tie.close (tie.spec
+    (need tie.Need-slice-aggregate-same-words (λ c. search needs)) (need tie.Need-same-words-requires (λ c κs. search needs)) returns
+    (need tie.Need-crc-of-requires (λ c κs. search needs)) (need tie.Need-crc-words-requires (λ c κs. search needs))
+    (need tie.Need-slice-aggregate-same-words-2 (λ c. search needs)) (need tie.Need-same-words-requires-2 (λ c κs. search needs)) returns-2)

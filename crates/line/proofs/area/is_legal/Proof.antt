@@ -1,28 +1,11 @@
 -- `line::area::is_legal` meets its contract. Assumes nothing.
+use Rattle.lists.proofs.Needs.{need}
 use mathlib.Core.Path.{sym, ap, _∙_}
 use lib.Dec.{eqb}
 use Rattle.line.proofs.AreaLaws.{allowed, legal-class}
 use borrow.Author.Needs.{needs}
 use Rattle.line.proofs.area.is_legal.Statement.{statement}
 use Rattle.line.proofs.area.is_legal.Tie as tie
-
-class-of-requires : tie.Need-class-of-requires
-class-of-requires c κs = search needs
-
-enum-told : tie.Need-enum-told
-enum-told c = search needs
-
-enum-told-2 : tie.Need-enum-told-2
-enum-told-2 c = search needs
-
-enum-told-3 : tie.Need-enum-told-3
-enum-told-3 c = search needs
-
-enum-told-4 : tie.Need-enum-told-4
-enum-told-4 c = search needs
-
-enum-told-5 : tie.Need-enum-told-5
-enum-told-5 c = search needs
 
 returns : tie.Need-returns
 returns c =
@@ -51,16 +34,7 @@ returns-5 c =
 
 pub is-legal-spec : {M : Type 1} → statement M
 is-legal-spec =
-    tie.close
-    (tie.spec
-    class-of-requires
-    enum-told
-    enum-told-2
-    enum-told-3
-    enum-told-4
-    enum-told-5
-    returns
-    returns-2
-    returns-3
-    returns-4
-    returns-5)
+    tie.close (tie.spec
+    (need tie.Need-class-of-requires (λ c κs. search needs)) (need tie.Need-enum-told (λ c. search needs))
+    (need tie.Need-enum-told-2 (λ c. search needs)) (need tie.Need-enum-told-3 (λ c. search needs)) (need tie.Need-enum-told-4 (λ c. search needs))
+    (need tie.Need-enum-told-5 (λ c. search needs)) returns returns-2 returns-3 returns-4 returns-5)

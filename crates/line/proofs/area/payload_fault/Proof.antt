@@ -1,4 +1,5 @@
 -- `line::area::payload_fault` meets its contract. Assumes nothing.
+use Rattle.lists.proofs.Needs.{need}
 use mathlib.Core.Path.{_≡_, ap, ap₂, _∙_}
 use mathlib.Core.Bool.{Bool}
 use mathlib.Core.List.{List}
@@ -14,45 +15,6 @@ use Rattle.line.specs.Check.{areaFaults, payloadFaults}
 use borrow.Author.Needs.{needs}
 use Rattle.line.proofs.area.payload_fault.Statement.{statement}
 use Rattle.line.proofs.area.payload_fault.Tie as tie
-
-sub-start : tie.Need-sub-start
-sub-start c = search needs
-
-area-length-requires : tie.Need-area-length-requires
-area-length-requires c κs = search needs
-
-add-end : tie.Need-add-end
-add-end c = search needs
-
-is-variable-requires : tie.Need-is-variable-requires
-is-variable-requires c κs = search needs
-
-mul-area-fault : tie.Need-mul-area-fault
-mul-area-fault c = search needs
-
-sub-area-fault : tie.Need-sub-area-fault
-sub-area-fault c = search needs
-
-part-area-fault-start : tie.Need-part-area-fault-start
-part-area-fault-start c = search needs
-
-part-area-fault-end : tie.Need-part-area-fault-end
-part-area-fault-end c = search needs
-
-mul-area-fault-2 : tie.Need-mul-area-fault-2
-mul-area-fault-2 c = search needs
-
-sub-area-fault-2 : tie.Need-sub-area-fault-2
-sub-area-fault-2 c = search needs
-
-part-area-fault-start-2 : tie.Need-part-area-fault-start-2
-part-area-fault-start-2 c = search needs
-
-part-area-fault-end-2 : tie.Need-part-area-fault-end-2
-part-area-fault-end-2 c = search needs
-
-area-fault-requires : tie.Need-area-fault-requires
-area-fault-requires c κs = search needs
 
 returns : tie.Need-returns
 unfolding payloadFaults areaOf endOf
@@ -71,19 +33,11 @@ returns c =
 
 pub payload-fault-spec : {M : Type 1} → statement M
 payload-fault-spec =
-    tie.close
-    (tie.spec
-    sub-start
-    area-length-requires
-    add-end
-    is-variable-requires
-    mul-area-fault
-    sub-area-fault
-    part-area-fault-start
-    part-area-fault-end
-    mul-area-fault-2
-    sub-area-fault-2
-    part-area-fault-start-2
-    part-area-fault-end-2
-    area-fault-requires
-    returns)
+    tie.close (tie.spec
+    (need tie.Need-sub-start (λ c. search needs)) (need tie.Need-area-length-requires (λ c κs. search needs))
+    (need tie.Need-add-end (λ c. search needs)) (need tie.Need-is-variable-requires (λ c κs. search needs))
+    (need tie.Need-mul-area-fault (λ c. search needs)) (need tie.Need-sub-area-fault (λ c. search needs))
+    (need tie.Need-part-area-fault-start (λ c. search needs)) (need tie.Need-part-area-fault-end (λ c. search needs))
+    (need tie.Need-mul-area-fault-2 (λ c. search needs)) (need tie.Need-sub-area-fault-2 (λ c. search needs))
+    (need tie.Need-part-area-fault-start-2 (λ c. search needs)) (need tie.Need-part-area-fault-end-2 (λ c. search needs))
+    (need tie.Need-area-fault-requires (λ c κs. search needs)) returns)

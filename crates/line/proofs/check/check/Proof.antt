@@ -1,4 +1,5 @@
 -- `line::check::check` meets its contract. Assumes nothing.
+use Rattle.lists.proofs.Needs.{need}
 use mathlib.Core.Path.{_≡_, sym, ap, ap₂, _∙_}
 use mathlib.Core.Bool.{Bool, true, false}
 use Prim.Native.Nat.{ℕ}
@@ -15,12 +16,6 @@ use borrow.Author.Needs.{needs}
 use Rattle.line.proofs.check.check.Statement.{statement}
 use Rattle.line.proofs.check.check.Tie as tie
 
-is-fit-requires : tie.Need-is-fit-requires
-is-fit-requires c κs = search needs
-
-faulty-requires : tie.Need-faulty-requires
-faulty-requires c κs = search needs
-
 returns : tie.Need-returns
 returns c =
     let a = c .before .before .before .before .args in
@@ -34,9 +29,6 @@ settings-of-requires c κs =
 
 fault-of-requires : tie.Need-fault-of-requires
 fault-of-requires c κs = (sym (c .before .before .is-fit .ensures) ∙ not-false _ (c .before .if1 .left), c .settings-of .ensures)
-
-faulty-requires-2 : tie.Need-faulty-requires-2
-faulty-requires-2 c κs = search needs
 
 returns-2 : tie.Need-returns-2
 returns-2 c =
@@ -58,14 +50,6 @@ returns-3 c =
 
 pub check-spec : {M : Type 1} → statement M
 check-spec =
-    tie.close
-    (tie.spec
-    is-fit-requires
-    faulty-requires
-    returns
-    settings-of-requires
-    fault-of-requires
-    faulty-requires-2
-    returns-2
-    number-of-requires
-    returns-3)
+    tie.close (tie.spec
+    (need tie.Need-is-fit-requires (λ c κs. search needs)) (need tie.Need-faulty-requires (λ c κs. search needs)) returns settings-of-requires
+    fault-of-requires (need tie.Need-faulty-requires-2 (λ c κs. search needs)) returns-2 number-of-requires returns-3)

@@ -1,4 +1,5 @@
 -- `line::check::fault_of` meets its contract. Assumes nothing.
+use Rattle.lists.proofs.Needs.{need}
 use mathlib.Core.Path.{sym, ap, ap₂, _∙_}
 use denote.Ref.{now}
 use mathlib.Core.List.{List, _++_}
@@ -15,27 +16,15 @@ use borrow.Author.Needs.{needs}
 use Rattle.line.proofs.check.fault_of.Statement.{statement}
 use Rattle.line.proofs.check.fault_of.Tie as tie
 
-system-of-requires : tie.Need-system-of-requires
-system-of-requires c κs = search needs
-
 head-fault-requires : tie.Need-head-fault-requires
 head-fault-requires c κs =
     let a = c .before .before .args in
     room-of (a .system) (a .mode) (now (a .line)) (c .system-of .result) (c .system-of .ensures) (c .before .before .pre .0)
 
-settings-fault-requires : tie.Need-settings-fault-requires
-settings-fault-requires c κs = search needs
-
 payload-fault-requires : tie.Need-payload-fault-requires
 payload-fault-requires c κs =
     let a = c .before .before .before .before .args in
     room-of (a .system) (a .mode) (now (a .line)) (c .before .before .system-of .result) (c .before .before .system-of .ensures) (c .before .before .before .before .pre .0)
-
-or-next-requires : tie.Need-or-next-requires
-or-next-requires c κs = search needs
-
-or-next-requires-2 : tie.Need-or-next-requires-2
-or-next-requires-2 c κs = search needs
 
 returns : tie.Need-returns
 unfolding faults settingsFault
@@ -54,12 +43,6 @@ returns c =
 
 pub fault-of-spec : {M : Type 1} → statement M
 fault-of-spec =
-    tie.close
-    (tie.spec
-    system-of-requires
-    head-fault-requires
-    settings-fault-requires
-    payload-fault-requires
-    or-next-requires
-    or-next-requires-2
-    returns)
+    tie.close (tie.spec
+    (need tie.Need-system-of-requires (λ c κs. search needs)) head-fault-requires (need tie.Need-settings-fault-requires (λ c κs. search needs))
+    payload-fault-requires (need tie.Need-or-next-requires (λ c κs. search needs)) (need tie.Need-or-next-requires-2 (λ c κs. search needs)) returns)

@@ -1,4 +1,5 @@
 -- `line::fixed::block_refused` meets its contract. Assumes nothing.
+use Rattle.lists.proofs.Needs.{need}
 use mathlib.Core.Path.{_≡_, sym, ap, ap₂, _∙_}
 use mathlib.Core.Bool.{Bool, false, _&&_, _||_, not}
 use Prim.Native.Nat.{ℕ, _*_, _^_, _<_}
@@ -36,9 +37,6 @@ module _ (c : tie.After-places-in) where
       let s = c .before .before .before .before in
       c .places-in .ensures ∙ ap (λ (x : Fixed). pick (eqb (s .args .payload) 1440) (x .at270) (x .at360)) (s .pre)
 
-is-variable-requires : tie.Need-is-variable-requires
-is-variable-requires c κs = search needs
-
 returns : tie.Need-returns
 unfolding blockRefused
 returns c =
@@ -53,12 +51,6 @@ returns-2 c =
     (ap₂ (λ (v a : Bool). not v && (a || (eqb (placesOf (g .payload) (g .block)) 0 || (eqb (g .flag) 1 && fillsAll (g .payload) (g .block))))) (sym (c .before .before .is-variable .ensures) ∙ c .before .if1 .left)
     (le-leb _ _ (c .if2 .taken)))
 
-places-in-requires : tie.Need-places-in-requires
-places-in-requires c κs = search needs
-
-cast-places : tie.Need-cast-places
-cast-places c = search needs
-
 returns-3 : tie.Need-returns-3
 returns-3 c =
     let g = c .before .before .before .before .before .args in
@@ -71,9 +63,6 @@ returns-4 c =
     let t = x .before in
     let g = t .before .before .before .args in
     sym (past-three (g .payload) (g .block) (g .flag) (fixed t) (small t) (ne-eqb _ _ (λ e. c .before .if3 .left (places x ∙ e))) ∙ ap (λ (f : Bool). f && fillsAll (g .payload) (g .block)) (ne-eqb _ _ (c .if4 .taken)))
-
-cast-result : tie.Need-cast-result
-cast-result c = search needs
 
 mul-result : tie.Need-mul-result
 mul-result c =
@@ -95,15 +84,6 @@ returns-5 c =
 
 pub block-refused-spec : {M : Type 1} → statement M
 block-refused-spec =
-    tie.close
-    (tie.spec
-    is-variable-requires
-    returns
-    returns-2
-    places-in-requires
-    cast-places
-    returns-3
-    returns-4
-    cast-result
-    mul-result
-    returns-5)
+    tie.close (tie.spec
+    (need tie.Need-is-variable-requires (λ c κs. search needs)) returns returns-2 (need tie.Need-places-in-requires (λ c κs. search needs))
+    (need tie.Need-cast-places (λ c. search needs)) returns-3 returns-4 (need tie.Need-cast-result (λ c. search needs)) mul-result returns-5)

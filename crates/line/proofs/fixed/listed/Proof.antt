@@ -1,4 +1,5 @@
 -- `line::fixed::listed` meets its contract. Assumes nothing.
+use Rattle.lists.proofs.Needs.{need}
 use mathlib.Core.Path.{sym, ap, _∙_}
 use Prim.Native.Nat.{ℕ}
 use Rattle.line.specs.Fixed.{table, find}
@@ -7,108 +8,6 @@ use Rattle.line.proofs.FixedLaws.{packed, unlisted}
 use borrow.Author.Needs.{needs}
 use Rattle.line.proofs.fixed.listed.Statement.{statement}
 use Rattle.line.proofs.fixed.listed.Tie as tie
-
-kind-requires : tie.Need-kind-requires
-kind-requires c κs = search needs
-
-kind-requires-2 : tie.Need-kind-requires-2
-kind-requires-2 c κs = search needs
-
-kind-requires-3 : tie.Need-kind-requires-3
-kind-requires-3 c κs = search needs
-
-kind-requires-4 : tie.Need-kind-requires-4
-kind-requires-4 c κs = search needs
-
-kind-requires-5 : tie.Need-kind-requires-5
-kind-requires-5 c κs = search needs
-
-kind-requires-6 : tie.Need-kind-requires-6
-kind-requires-6 c κs = search needs
-
-kind-requires-7 : tie.Need-kind-requires-7
-kind-requires-7 c κs = search needs
-
-kind-requires-8 : tie.Need-kind-requires-8
-kind-requires-8 c κs = search needs
-
-kind-requires-9 : tie.Need-kind-requires-9
-kind-requires-9 c κs = search needs
-
-kind-requires-10 : tie.Need-kind-requires-10
-kind-requires-10 c κs = search needs
-
-kind-requires-11 : tie.Need-kind-requires-11
-kind-requires-11 c κs = search needs
-
-kind-requires-12 : tie.Need-kind-requires-12
-kind-requires-12 c κs = search needs
-
-kind-requires-13 : tie.Need-kind-requires-13
-kind-requires-13 c κs = search needs
-
-kind-requires-14 : tie.Need-kind-requires-14
-kind-requires-14 c κs = search needs
-
-kind-requires-15 : tie.Need-kind-requires-15
-kind-requires-15 c κs = search needs
-
-kind-requires-16 : tie.Need-kind-requires-16
-kind-requires-16 c κs = search needs
-
-kind-requires-17 : tie.Need-kind-requires-17
-kind-requires-17 c κs = search needs
-
-kind-requires-18 : tie.Need-kind-requires-18
-kind-requires-18 c κs = search needs
-
-kind-requires-19 : tie.Need-kind-requires-19
-kind-requires-19 c κs = search needs
-
-kind-requires-20 : tie.Need-kind-requires-20
-kind-requires-20 c κs = search needs
-
-kind-requires-21 : tie.Need-kind-requires-21
-kind-requires-21 c κs = search needs
-
-kind-requires-22 : tie.Need-kind-requires-22
-kind-requires-22 c κs = search needs
-
-kind-requires-23 : tie.Need-kind-requires-23
-kind-requires-23 c κs = search needs
-
-kind-requires-24 : tie.Need-kind-requires-24
-kind-requires-24 c κs = search needs
-
-kind-requires-25 : tie.Need-kind-requires-25
-kind-requires-25 c κs = search needs
-
-kind-requires-26 : tie.Need-kind-requires-26
-kind-requires-26 c κs = search needs
-
-kind-requires-27 : tie.Need-kind-requires-27
-kind-requires-27 c κs = search needs
-
-kind-requires-28 : tie.Need-kind-requires-28
-kind-requires-28 c κs = search needs
-
-kind-requires-29 : tie.Need-kind-requires-29
-kind-requires-29 c κs = search needs
-
-kind-requires-30 : tie.Need-kind-requires-30
-kind-requires-30 c κs = search needs
-
-kind-requires-31 : tie.Need-kind-requires-31
-kind-requires-31 c κs = search needs
-
-kind-requires-32 : tie.Need-kind-requires-32
-kind-requires-32 c κs = search needs
-
-kind-requires-33 : tie.Need-kind-requires-33
-kind-requires-33 c κs = search needs
-
-kind-requires-34 : tie.Need-kind-requires-34
-kind-requires-34 c κs = search needs
 
 returns : tie.Need-returns
 unfolding table pick
@@ -248,73 +147,24 @@ returns-34 c = c .kind34 .ensures ∙ sym (ap packed (unlisted (c .before .befor
 
 pub listed-spec : {M : Type 1} → statement M
 listed-spec =
-    tie.close
-    (tie.spec
-    kind-requires
-    kind-requires-2
-    kind-requires-3
-    kind-requires-4
-    kind-requires-5
-    kind-requires-6
-    kind-requires-7
-    kind-requires-8
-    kind-requires-9
-    kind-requires-10
-    kind-requires-11
-    kind-requires-12
-    kind-requires-13
-    kind-requires-14
-    kind-requires-15
-    kind-requires-16
-    kind-requires-17
-    kind-requires-18
-    kind-requires-19
-    kind-requires-20
-    kind-requires-21
-    kind-requires-22
-    kind-requires-23
-    kind-requires-24
-    kind-requires-25
-    kind-requires-26
-    kind-requires-27
-    kind-requires-28
-    kind-requires-29
-    kind-requires-30
-    kind-requires-31
-    kind-requires-32
-    kind-requires-33
-    kind-requires-34
-    returns
-    returns-2
-    returns-3
-    returns-4
-    returns-5
-    returns-6
-    returns-7
-    returns-8
-    returns-9
-    returns-10
-    returns-11
-    returns-12
-    returns-13
-    returns-14
-    returns-15
-    returns-16
-    returns-17
-    returns-18
-    returns-19
-    returns-20
-    returns-21
-    returns-22
-    returns-23
-    returns-24
-    returns-25
-    returns-26
-    returns-27
-    returns-28
-    returns-29
-    returns-30
-    returns-31
-    returns-32
-    returns-33
-    returns-34)
+    tie.close (tie.spec
+    (need tie.Need-kind-requires (λ c κs. search needs)) (need tie.Need-kind-requires-2 (λ c κs. search needs))
+    (need tie.Need-kind-requires-3 (λ c κs. search needs)) (need tie.Need-kind-requires-4 (λ c κs. search needs))
+    (need tie.Need-kind-requires-5 (λ c κs. search needs)) (need tie.Need-kind-requires-6 (λ c κs. search needs))
+    (need tie.Need-kind-requires-7 (λ c κs. search needs)) (need tie.Need-kind-requires-8 (λ c κs. search needs))
+    (need tie.Need-kind-requires-9 (λ c κs. search needs)) (need tie.Need-kind-requires-10 (λ c κs. search needs))
+    (need tie.Need-kind-requires-11 (λ c κs. search needs)) (need tie.Need-kind-requires-12 (λ c κs. search needs))
+    (need tie.Need-kind-requires-13 (λ c κs. search needs)) (need tie.Need-kind-requires-14 (λ c κs. search needs))
+    (need tie.Need-kind-requires-15 (λ c κs. search needs)) (need tie.Need-kind-requires-16 (λ c κs. search needs))
+    (need tie.Need-kind-requires-17 (λ c κs. search needs)) (need tie.Need-kind-requires-18 (λ c κs. search needs))
+    (need tie.Need-kind-requires-19 (λ c κs. search needs)) (need tie.Need-kind-requires-20 (λ c κs. search needs))
+    (need tie.Need-kind-requires-21 (λ c κs. search needs)) (need tie.Need-kind-requires-22 (λ c κs. search needs))
+    (need tie.Need-kind-requires-23 (λ c κs. search needs)) (need tie.Need-kind-requires-24 (λ c κs. search needs))
+    (need tie.Need-kind-requires-25 (λ c κs. search needs)) (need tie.Need-kind-requires-26 (λ c κs. search needs))
+    (need tie.Need-kind-requires-27 (λ c κs. search needs)) (need tie.Need-kind-requires-28 (λ c κs. search needs))
+    (need tie.Need-kind-requires-29 (λ c κs. search needs)) (need tie.Need-kind-requires-30 (λ c κs. search needs))
+    (need tie.Need-kind-requires-31 (λ c κs. search needs)) (need tie.Need-kind-requires-32 (λ c κs. search needs))
+    (need tie.Need-kind-requires-33 (λ c κs. search needs)) (need tie.Need-kind-requires-34 (λ c κs. search needs)) returns returns-2 returns-3
+    returns-4 returns-5 returns-6 returns-7 returns-8 returns-9 returns-10 returns-11 returns-12 returns-13 returns-14 returns-15 returns-16
+    returns-17 returns-18 returns-19 returns-20 returns-21 returns-22 returns-23 returns-24 returns-25 returns-26 returns-27 returns-28 returns-29
+    returns-30 returns-31 returns-32 returns-33 returns-34)

@@ -1,4 +1,5 @@
 -- `line::head::all_byte` meets its contract. Assumes nothing.
+use Rattle.lists.proofs.Needs.{need}
 use Prim.Native.Nat.{_-_}
 use lib.ListN.{length}
 use Rattle.lists.proofs.Loops.{Testing, test-start, test-turn, test-end}
@@ -16,21 +17,6 @@ abbrev μ-loop : tie.MeasureT-loop
 loop-holds : tie.Need-loop-holds Inv-loop μ-loop
 loop-holds c = test-start isByte _
 
-mul-is-byte : tie.Need-mul-is-byte Inv-loop μ-loop
-mul-is-byte c = search needs
-
-shared-slice-read-is-byte : tie.Need-shared-slice-read-is-byte Inv-loop μ-loop
-shared-slice-read-is-byte c = search needs
-
-is-byte-requires : tie.Need-is-byte-requires Inv-loop μ-loop
-is-byte-requires c κs = search needs
-
-add-i : tie.Need-add-i Inv-loop μ-loop
-add-i c = search needs
-
-loop-less : tie.Need-loop-less Inv-loop μ-loop
-loop-less c = search needs
-
 loop-again : tie.Need-loop-again Inv-loop μ-loop
 loop-again c = test-turn isByte _ _ _ _ (c .before .before .before .loop .inv) (c .before .before .loop-test .taken) (c .is-byte .ensures)
 
@@ -39,15 +25,8 @@ returns c = test-end isByte _ _ _ (c .before .loop .inv) (c .loop-test .left)
 
 pub all-byte-spec : {M : Type 1} → statement M
 all-byte-spec =
-    tie.close
-    (tie.spec
-    Inv-loop
-    μ-loop
-    loop-holds
-    mul-is-byte
-    shared-slice-read-is-byte
-    is-byte-requires
-    add-i
-    loop-less
-    loop-again
-    returns)
+    tie.close (tie.spec
+    Inv-loop μ-loop loop-holds (need (tie.Need-mul-is-byte Inv-loop μ-loop) (λ c. search needs))
+    (need (tie.Need-shared-slice-read-is-byte Inv-loop μ-loop) (λ c. search needs))
+    (need (tie.Need-is-byte-requires Inv-loop μ-loop) (λ c κs. search needs)) (need (tie.Need-add-i Inv-loop μ-loop) (λ c. search needs))
+    (need (tie.Need-loop-less Inv-loop μ-loop) (λ c. search needs)) loop-again returns)

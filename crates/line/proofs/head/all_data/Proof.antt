@@ -1,4 +1,5 @@
 -- `line::head::all_data` meets its contract. Assumes nothing.
+use Rattle.lists.proofs.Needs.{need}
 use Prim.Native.Nat.{_-_}
 use lib.ListN.{length}
 use Rattle.lists.proofs.Loops.{Testing, test-start, test-turn, test-end}
@@ -16,21 +17,6 @@ abbrev μ-loop : tie.MeasureT-loop
 loop-holds : tie.Need-loop-holds Inv-loop μ-loop
 loop-holds c = test-start isData _
 
-mul-is-data : tie.Need-mul-is-data Inv-loop μ-loop
-mul-is-data c = search needs
-
-shared-slice-read-is-data : tie.Need-shared-slice-read-is-data Inv-loop μ-loop
-shared-slice-read-is-data c = search needs
-
-is-data-requires : tie.Need-is-data-requires Inv-loop μ-loop
-is-data-requires c κs = search needs
-
-add-i : tie.Need-add-i Inv-loop μ-loop
-add-i c = search needs
-
-loop-less : tie.Need-loop-less Inv-loop μ-loop
-loop-less c = search needs
-
 loop-again : tie.Need-loop-again Inv-loop μ-loop
 loop-again c = test-turn isData _ _ _ _ (c .before .before .before .loop .inv) (c .before .before .loop-test .taken) (c .is-data .ensures)
 
@@ -39,15 +25,8 @@ returns c = test-end isData _ _ _ (c .before .loop .inv) (c .loop-test .left)
 
 pub all-data-spec : {M : Type 1} → statement M
 all-data-spec =
-    tie.close
-    (tie.spec
-    Inv-loop
-    μ-loop
-    loop-holds
-    mul-is-data
-    shared-slice-read-is-data
-    is-data-requires
-    add-i
-    loop-less
-    loop-again
-    returns)
+    tie.close (tie.spec
+    Inv-loop μ-loop loop-holds (need (tie.Need-mul-is-data Inv-loop μ-loop) (λ c. search needs))
+    (need (tie.Need-shared-slice-read-is-data Inv-loop μ-loop) (λ c. search needs))
+    (need (tie.Need-is-data-requires Inv-loop μ-loop) (λ c κs. search needs)) (need (tie.Need-add-i Inv-loop μ-loop) (λ c. search needs))
+    (need (tie.Need-loop-less Inv-loop μ-loop) (λ c. search needs)) loop-again returns)

@@ -1,4 +1,5 @@
 -- `line::head::is_timed` meets its contract. Assumes nothing.
+use Rattle.lists.proofs.Needs.{need}
 use mathlib.Core.Path.{_≡_, refl, sym, ap, ap₂, _∙_}
 use Prim.Native.Nat.{ℕ, _+_, _-_}
 use mathlib.Core.Bool.{_&&_}
@@ -12,51 +13,6 @@ use borrow.Author.Needs.{needs}
 use Rattle.line.proofs.head.is_timed.Statement.{statement}
 use Rattle.line.proofs.head.is_timed.Tie as tie
 
-shared-slice-read-w : tie.Need-shared-slice-read-w
-shared-slice-read-w c = search needs
-
-add-end : tie.Need-add-end
-add-end c = search needs
-
-sub-same-words : tie.Need-sub-same-words
-sub-same-words c = search needs
-
-part-same-words-start : tie.Need-part-same-words-start
-part-same-words-start c = search needs
-
-part-same-words-end : tie.Need-part-same-words-end
-part-same-words-end c = search needs
-
-timing-words-requires : tie.Need-timing-words-requires
-timing-words-requires c κs = search needs
-
-slice-aggregate-same-words : tie.Need-slice-aggregate-same-words
-slice-aggregate-same-words c = search needs
-
-same-words-requires : tie.Need-same-words-requires
-same-words-requires c κs = search needs
-
-mul-same-words : tie.Need-mul-same-words
-mul-same-words c = search needs
-
-sub-same-words-2 : tie.Need-sub-same-words-2
-sub-same-words-2 c = search needs
-
-part-same-words-start-2 : tie.Need-part-same-words-start-2
-part-same-words-start-2 c = search needs
-
-part-same-words-end-2 : tie.Need-part-same-words-end-2
-part-same-words-end-2 c = search needs
-
-timing-words-requires-2 : tie.Need-timing-words-requires-2
-timing-words-requires-2 c κs = search needs
-
-slice-aggregate-same-words-2 : tie.Need-slice-aggregate-same-words-2
-slice-aggregate-same-words-2 c = search needs
-
-same-words-requires-2 : tie.Need-same-words-requires-2
-same-words-requires-2 c κs = search needs
-
 returns : tie.Need-returns
 unfolding timed
 returns c =
@@ -67,21 +23,12 @@ returns c =
 
 pub is-timed-spec : {M : Type 1} → statement M
 is-timed-spec =
-    tie.close
-    (tie.spec
-    shared-slice-read-w
-    add-end
-    sub-same-words
-    part-same-words-start
-    part-same-words-end
-    timing-words-requires
-    slice-aggregate-same-words
-    same-words-requires
-    mul-same-words
-    sub-same-words-2
-    part-same-words-start-2
-    part-same-words-end-2
-    timing-words-requires-2
-    slice-aggregate-same-words-2
-    same-words-requires-2
-    returns)
+    tie.close (tie.spec
+    (need tie.Need-shared-slice-read-w (λ c. search needs)) (need tie.Need-add-end (λ c. search needs))
+    (need tie.Need-sub-same-words (λ c. search needs)) (need tie.Need-part-same-words-start (λ c. search needs))
+    (need tie.Need-part-same-words-end (λ c. search needs)) (need tie.Need-timing-words-requires (λ c κs. search needs))
+    (need tie.Need-slice-aggregate-same-words (λ c. search needs)) (need tie.Need-same-words-requires (λ c κs. search needs))
+    (need tie.Need-mul-same-words (λ c. search needs)) (need tie.Need-sub-same-words-2 (λ c. search needs))
+    (need tie.Need-part-same-words-start-2 (λ c. search needs)) (need tie.Need-part-same-words-end-2 (λ c. search needs))
+    (need tie.Need-timing-words-requires-2 (λ c κs. search needs)) (need tie.Need-slice-aggregate-same-words-2 (λ c. search needs))
+    (need tie.Need-same-words-requires-2 (λ c κs. search needs)) returns)

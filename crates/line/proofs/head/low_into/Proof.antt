@@ -1,4 +1,5 @@
 -- `line::head::low_into` meets its contract. Assumes nothing.
+use Rattle.lists.proofs.Needs.{need}
 use borrow.Author.Needs.{needs}
 use mathlib.Core.Path.{refl}
 use Prim.Native.Nat.{_-_}
@@ -19,23 +20,8 @@ abbrev μ-loop : tie.MeasureT-loop
 loop-holds : tie.Need-loop-holds Inv-loop μ-loop
 loop-holds c = map-start low (c .args .src .now) _ (c .pre)
 
-mul-out : tie.Need-mul-out Inv-loop μ-loop
-mul-out c = search needs
-
-shared-slice-read-out : tie.Need-shared-slice-read-out Inv-loop μ-loop
-shared-slice-read-out c = search needs
-
-cast-out : tie.Need-cast-out Inv-loop μ-loop
-cast-out c = search needs
-
 slice-write-out : tie.Need-slice-write-out Inv-loop μ-loop
 slice-write-out c = omega (arith, c .before .before .loop .inv .same, c .before .before .before .pre)
-
-add-i : tie.Need-add-i Inv-loop μ-loop
-add-i c = search needs
-
-loop-less : tie.Need-loop-less Inv-loop μ-loop
-loop-less c = search needs
 
 loop-again : tie.Need-loop-again Inv-loop μ-loop
 loop-again c = map-turn low (c .before .before .before .args .src .now) _ _ _ _ (c .before .before .loop .inv) (c .before .loop-test .taken) refl
@@ -48,17 +34,8 @@ returns c = map-end low (c .before .before .args .src .now) _ _ _ (c .before .lo
 
 pub low-into-spec : {M : Type 1} → statement M
 low-into-spec =
-    tie.close
-    (tie.spec
-    Inv-loop
-    μ-loop
-    loop-holds
-    mul-out
-    shared-slice-read-out
-    cast-out
-    slice-write-out
-    add-i
-    loop-less
-    loop-again
-    same-length
-    returns)
+    tie.close (tie.spec
+    Inv-loop μ-loop loop-holds (need (tie.Need-mul-out Inv-loop μ-loop) (λ c. search needs))
+    (need (tie.Need-shared-slice-read-out Inv-loop μ-loop) (λ c. search needs)) (need (tie.Need-cast-out Inv-loop μ-loop) (λ c. search needs))
+    slice-write-out (need (tie.Need-add-i Inv-loop μ-loop) (λ c. search needs)) (need (tie.Need-loop-less Inv-loop μ-loop) (λ c. search needs))
+    loop-again same-length returns)

@@ -1,4 +1,5 @@
 -- `line::header::lay_bytes` meets its contract. Assumes nothing.
+use Rattle.lists.proofs.Needs.{need}
 use mathlib.Core.Path.{_≡_, refl, sym, ap, _∙_}
 use Prim.Native.Nat.{_+_, _-_, _≤_, _<_}
 use mathlib.Core.List.{_++_, map}
@@ -21,30 +22,6 @@ abbrev μ-loop : tie.MeasureT-loop
 loop-holds : tie.Need-loop-holds Inv-loop μ-loop
 loop-holds c = (search needs, refl, lay-none (c .before .args .at) (c .before .args .words))
 
-shared-slice-read-wide : tie.Need-shared-slice-read-wide Inv-loop μ-loop
-shared-slice-read-wide c = search needs
-
-wide-requires : tie.Need-wide-requires Inv-loop μ-loop
-wide-requires c κs = search needs
-
-byte-word-requires : tie.Need-byte-word-requires Inv-loop μ-loop
-byte-word-requires c κs = search needs
-
-add-out : tie.Need-add-out Inv-loop μ-loop
-add-out c = search needs
-
-mul-out : tie.Need-mul-out Inv-loop μ-loop
-mul-out c = search needs
-
-array-write-out : tie.Need-array-write-out Inv-loop μ-loop
-array-write-out c = search needs
-
-add-i : tie.Need-add-i Inv-loop μ-loop
-add-i c = search needs
-
-loop-less : tie.Need-loop-less Inv-loop μ-loop
-loop-less c = search needs
-
 loop-again : tie.Need-loop-again Inv-loop μ-loop
 loop-again c =
     let l = c .before .before .before .before .loop in
@@ -64,18 +41,9 @@ returns c =
 
 pub lay-bytes-spec : {M : Type 1} → statement M
 lay-bytes-spec =
-    tie.close
-    (tie.spec
-    Inv-loop
-    μ-loop
-    loop-holds
-    shared-slice-read-wide
-    wide-requires
-    byte-word-requires
-    add-out
-    mul-out
-    array-write-out
-    add-i
-    loop-less
-    loop-again
-    returns)
+    tie.close (tie.spec
+    Inv-loop μ-loop loop-holds (need (tie.Need-shared-slice-read-wide Inv-loop μ-loop) (λ c. search needs))
+    (need (tie.Need-wide-requires Inv-loop μ-loop) (λ c κs. search needs)) (need (tie.Need-byte-word-requires Inv-loop μ-loop) (λ c κs. search needs))
+    (need (tie.Need-add-out Inv-loop μ-loop) (λ c. search needs)) (need (tie.Need-mul-out Inv-loop μ-loop) (λ c. search needs))
+    (need (tie.Need-array-write-out Inv-loop μ-loop) (λ c. search needs)) (need (tie.Need-add-i Inv-loop μ-loop) (λ c. search needs))
+    (need (tie.Need-loop-less Inv-loop μ-loop) (λ c. search needs)) loop-again returns)

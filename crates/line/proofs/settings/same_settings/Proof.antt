@@ -1,4 +1,5 @@
 -- `line::settings::same_settings` meets its contract. Assumes nothing.
+use Rattle.lists.proofs.Needs.{need}
 use mathlib.Core.Path.{ap, ap₂}
 use mathlib.Core.Bool.{Bool, _&&_}
 use lib.Dec.{eqb}
@@ -6,33 +7,6 @@ use Rattle.line.specs.Settings.{sameSettings}
 use borrow.Author.Needs.{needs}
 use Rattle.line.proofs.settings.same_settings.Statement.{statement}
 use Rattle.line.proofs.settings.same_settings.Tie as tie
-
-slice-aggregate-same-bytes : tie.Need-slice-aggregate-same-bytes
-slice-aggregate-same-bytes c = search needs
-
-slice-aggregate-same-bytes-2 : tie.Need-slice-aggregate-same-bytes-2
-slice-aggregate-same-bytes-2 c = search needs
-
-same-bytes-requires : tie.Need-same-bytes-requires
-same-bytes-requires c κs = search needs
-
-slice-aggregate-same-bytes-3 : tie.Need-slice-aggregate-same-bytes-3
-slice-aggregate-same-bytes-3 c = search needs
-
-slice-aggregate-same-bytes-4 : tie.Need-slice-aggregate-same-bytes-4
-slice-aggregate-same-bytes-4 c = search needs
-
-same-bytes-requires-2 : tie.Need-same-bytes-requires-2
-same-bytes-requires-2 c κs = search needs
-
-slice-aggregate-same-bytes-5 : tie.Need-slice-aggregate-same-bytes-5
-slice-aggregate-same-bytes-5 c = search needs
-
-slice-aggregate-same-bytes-6 : tie.Need-slice-aggregate-same-bytes-6
-slice-aggregate-same-bytes-6 c = search needs
-
-same-bytes-requires-3 : tie.Need-same-bytes-requires-3
-same-bytes-requires-3 c κs = search needs
 
 returns : tie.Need-returns
 unfolding sameSettings
@@ -45,15 +19,9 @@ returns c =
 
 pub same-settings-spec : {M : Type 1} → statement M
 same-settings-spec =
-    tie.close
-    (tie.spec
-    slice-aggregate-same-bytes
-    slice-aggregate-same-bytes-2
-    same-bytes-requires
-    slice-aggregate-same-bytes-3
-    slice-aggregate-same-bytes-4
-    same-bytes-requires-2
-    slice-aggregate-same-bytes-5
-    slice-aggregate-same-bytes-6
-    same-bytes-requires-3
-    returns)
+    tie.close (tie.spec
+    (need tie.Need-slice-aggregate-same-bytes (λ c. search needs)) (need tie.Need-slice-aggregate-same-bytes-2 (λ c. search needs))
+    (need tie.Need-same-bytes-requires (λ c κs. search needs)) (need tie.Need-slice-aggregate-same-bytes-3 (λ c. search needs))
+    (need tie.Need-slice-aggregate-same-bytes-4 (λ c. search needs)) (need tie.Need-same-bytes-requires-2 (λ c κs. search needs))
+    (need tie.Need-slice-aggregate-same-bytes-5 (λ c. search needs)) (need tie.Need-slice-aggregate-same-bytes-6 (λ c. search needs))
+    (need tie.Need-same-bytes-requires-3 (λ c κs. search needs)) returns)

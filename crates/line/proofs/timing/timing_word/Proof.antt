@@ -1,71 +1,9 @@
 -- `line::timing::timing_word` meets its contract. Assumes nothing.
+use Rattle.lists.proofs.Needs.{need}
 use Rattle.line.specs.Timing.{timingWord}
 use borrow.Author.Needs.{needs}
 use Rattle.line.proofs.timing.timing_word.Statement.{statement}
 use Rattle.line.proofs.timing.timing_word.Tie as tie
-
-bit-of-requires : tie.Need-bit-of-requires
-bit-of-requires c κs = search needs
-
-mul-result : tie.Need-mul-result
-mul-result c = search needs
-
-add-result : tie.Need-add-result
-add-result c = search needs
-
-bit-of-requires-2 : tie.Need-bit-of-requires-2
-bit-of-requires-2 c κs = search needs
-
-mul-result-2 : tie.Need-mul-result-2
-mul-result-2 c = search needs
-
-add-result-2 : tie.Need-add-result-2
-add-result-2 c = search needs
-
-bit-of-requires-3 : tie.Need-bit-of-requires-3
-bit-of-requires-3 c κs = search needs
-
-mul-result-3 : tie.Need-mul-result-3
-mul-result-3 c = search needs
-
-add-result-3 : tie.Need-add-result-3
-add-result-3 c = search needs
-
-bit-of-requires-4 : tie.Need-bit-of-requires-4
-bit-of-requires-4 c κs = search needs
-
-mul-result-4 : tie.Need-mul-result-4
-mul-result-4 c = search needs
-
-add-result-4 : tie.Need-add-result-4
-add-result-4 c = search needs
-
-bit-of-requires-5 : tie.Need-bit-of-requires-5
-bit-of-requires-5 c κs = search needs
-
-mul-result-5 : tie.Need-mul-result-5
-mul-result-5 c = search needs
-
-add-result-5 : tie.Need-add-result-5
-add-result-5 c = search needs
-
-bit-of-requires-6 : tie.Need-bit-of-requires-6
-bit-of-requires-6 c κs = search needs
-
-mul-result-6 : tie.Need-mul-result-6
-mul-result-6 c = search needs
-
-add-result-6 : tie.Need-add-result-6
-add-result-6 c = search needs
-
-bit-of-requires-7 : tie.Need-bit-of-requires-7
-bit-of-requires-7 c κs = search needs
-
-mul-result-7 : tie.Need-mul-result-7
-mul-result-7 c = search needs
-
-add-result-7 : tie.Need-add-result-7
-add-result-7 c = search needs
 
 returns : tie.Need-returns
 unfolding timingWord mathlib.Core.Bool.xor
@@ -73,27 +11,15 @@ returns c = search needs
 
 pub timing-word-spec : {M : Type 1} → statement M
 timing-word-spec =
-    tie.close
-    (tie.spec
-    bit-of-requires
-    mul-result
-    add-result
-    bit-of-requires-2
-    mul-result-2
-    add-result-2
-    bit-of-requires-3
-    mul-result-3
-    add-result-3
-    bit-of-requires-4
-    mul-result-4
-    add-result-4
-    bit-of-requires-5
-    mul-result-5
-    add-result-5
-    bit-of-requires-6
-    mul-result-6
-    add-result-6
-    bit-of-requires-7
-    mul-result-7
-    add-result-7
-    returns)
+    tie.close (tie.spec
+    (need tie.Need-bit-of-requires (λ c κs. search needs)) (need tie.Need-mul-result (λ c. search needs))
+    (need tie.Need-add-result (λ c. search needs)) (need tie.Need-bit-of-requires-2 (λ c κs. search needs))
+    (need tie.Need-mul-result-2 (λ c. search needs)) (need tie.Need-add-result-2 (λ c. search needs))
+    (need tie.Need-bit-of-requires-3 (λ c κs. search needs)) (need tie.Need-mul-result-3 (λ c. search needs))
+    (need tie.Need-add-result-3 (λ c. search needs)) (need tie.Need-bit-of-requires-4 (λ c κs. search needs))
+    (need tie.Need-mul-result-4 (λ c. search needs)) (need tie.Need-add-result-4 (λ c. search needs))
+    (need tie.Need-bit-of-requires-5 (λ c κs. search needs)) (need tie.Need-mul-result-5 (λ c. search needs))
+    (need tie.Need-add-result-5 (λ c. search needs)) (need tie.Need-bit-of-requires-6 (λ c κs. search needs))
+    (need tie.Need-mul-result-6 (λ c. search needs)) (need tie.Need-add-result-6 (λ c. search needs))
+    (need tie.Need-bit-of-requires-7 (λ c κs. search needs)) (need tie.Need-mul-result-7 (λ c. search needs))
+    (need tie.Need-add-result-7 (λ c. search needs)) returns)

@@ -1,4 +1,5 @@
 -- `machine::places::met_at` meets its contract. Assumes nothing.
+use Rattle.lists.proofs.Needs.{need}
 use mathlib.Core.Path.{sym, ap, _∙_}
 use Prim.Native.Nat.{ℕ}
 use Rattle.words.specs.declared.class.Class.the-variants.{Byte, Other, Separator, Ending, Illegal}
@@ -8,32 +9,11 @@ use borrow.Author.Needs.{needs}
 use Rattle.machine.proofs.places.met_at.Statement.{statement}
 use Rattle.machine.proofs.places.met_at.Tie as tie
 
-class-of-requires : tie.Need-class-of-requires
-class-of-requires c κs = search needs
-
-cast-kind : tie.Need-cast-kind
-cast-kind c = search needs
-
-enum-told : tie.Need-enum-told
-enum-told c = search needs
-
 returns : tie.Need-returns
 returns c =
     let m = c .before .before .before in
     let a = m .before .args in
     sym (met-by (a .w) (a .n) Byte (sym (m .class-of .ensures .0) ∙ c .before .enum-told .given .1) ∙ ap (λ (k : ℕ). placeMet Byte k (a .n)) (c .if1 .taken))
-
-enum-told-2 : tie.Need-enum-told-2
-enum-told-2 c = search needs
-
-enum-told-3 : tie.Need-enum-told-3
-enum-told-3 c = search needs
-
-enum-told-4 : tie.Need-enum-told-4
-enum-told-4 c = search needs
-
-enum-told-5 : tie.Need-enum-told-5
-enum-told-5 c = search needs
 
 returns-2 : tie.Need-returns-2
 returns-2 c =
@@ -55,18 +35,8 @@ returns-6 c = sym (met-by _ _ Illegal (sym (c .before .before .class-of .ensures
 
 pub met-at-spec : {M : Type 1} → statement M
 met-at-spec =
-    tie.close
-    (tie.spec
-    class-of-requires
-    cast-kind
-    enum-told
-    returns
-    enum-told-2
-    enum-told-3
-    enum-told-4
-    enum-told-5
-    returns-2
-    returns-3
-    returns-4
-    returns-5
-    returns-6)
+    tie.close (tie.spec
+    (need tie.Need-class-of-requires (λ c κs. search needs)) (need tie.Need-cast-kind (λ c. search needs))
+    (need tie.Need-enum-told (λ c. search needs)) returns (need tie.Need-enum-told-2 (λ c. search needs))
+    (need tie.Need-enum-told-3 (λ c. search needs)) (need tie.Need-enum-told-4 (λ c. search needs)) (need tie.Need-enum-told-5 (λ c. search needs))
+    returns-2 returns-3 returns-4 returns-5 returns-6)

@@ -1,4 +1,5 @@
 -- `machine::places::walk_all` meets its contract. Assumes nothing.
+use Rattle.lists.proofs.Needs.{need}
 use mathlib.Core.Path.{_≡_, refl, sym, ap, _∙_, subst}
 use mathlib.Core.List.{List}
 use Prim.Native.Nat.{ℕ, _-_, _/_, _≤_}
@@ -29,9 +30,6 @@ loop-holds c =
     let a = c .before .before .args in
     (omega arith, refl, past-zero _ ∙ ap (λ (n : ℕ). walkPlaces (a .mode) (a .phase) (placesIn (a .size) (n / a .size) (a .words .now)) (a .room .now)) (sub-zero (length (a .words .now))))
 
-sub-loop : tie.Need-sub-loop Inv-loop μ-loop
-sub-loop c = search needs
-
 add-e : tie.Need-add-e Inv-loop μ-loop
 add-e c =
     let t = c in
@@ -53,15 +51,6 @@ shared-slice-read-met-at c =
     let h = place-fits _ _ _ (l .inv .0) (t .loop-test .taken) in
     search needs
 
-sub-met-at : tie.Need-sub-met-at Inv-loop μ-loop
-sub-met-at c = search needs
-
-met-at-requires : tie.Need-met-at-requires Inv-loop μ-loop
-met-at-requires c κs = search needs
-
-is-nothing-requires : tie.Need-is-nothing-requires Inv-loop μ-loop
-is-nothing-requires c κs = search needs
-
 add-put-place : tie.Need-add-put-place Inv-loop μ-loop
 add-put-place c =
     let t = c .before .before .before .before in
@@ -75,12 +64,6 @@ mul-put-place c =
     let l = t .before .loop in
     let h = place-fits _ _ _ (l .inv .0) (t .loop-test .taken) in
     search needs
-
-sub-put-place : tie.Need-sub-put-place Inv-loop μ-loop
-sub-put-place c = search needs
-
-part-put-place-start : tie.Need-part-put-place-start Inv-loop μ-loop
-part-put-place-start c = search needs
 
 part-put-place-end : tie.Need-part-put-place-end Inv-loop μ-loop
 part-put-place-end c =
@@ -131,9 +114,6 @@ loop-again c =
           _ (l .inv .2) (sym (c .before .is-nothing .ensures) ∙ not-false _ (c .if1 .left)),
     )
 
-same-length-2 : tie.Need-same-length-2 Inv-loop μ-loop
-same-length-2 c = search needs
-
 returns-2 : tie.Need-returns-2 Inv-loop μ-loop
 returns-2 c =
     let l = c .before .loop in
@@ -142,27 +122,10 @@ returns-2 c =
 
 pub walk-all-spec : {M : Type 1} → statement M
 walk-all-spec =
-    tie.close
-    (tie.spec
-    Inv-loop
-    μ-loop
-    loop-holds
-    sub-loop
-    add-e
-    mul-met-at
-    shared-slice-read-met-at
-    sub-met-at
-    met-at-requires
-    is-nothing-requires
-    add-put-place
-    mul-put-place
-    sub-put-place
-    part-put-place-start
-    part-put-place-end
-    put-place-requires
-    same-length
-    returns
-    loop-less
-    loop-again
-    same-length-2
+    tie.close (tie.spec
+    Inv-loop μ-loop loop-holds (need (tie.Need-sub-loop Inv-loop μ-loop) (λ c. search needs)) add-e mul-met-at shared-slice-read-met-at
+    (need (tie.Need-sub-met-at Inv-loop μ-loop) (λ c. search needs)) (need (tie.Need-met-at-requires Inv-loop μ-loop) (λ c κs. search needs))
+    (need (tie.Need-is-nothing-requires Inv-loop μ-loop) (λ c κs. search needs)) add-put-place mul-put-place
+    (need (tie.Need-sub-put-place Inv-loop μ-loop) (λ c. search needs)) (need (tie.Need-part-put-place-start Inv-loop μ-loop) (λ c. search needs))
+    part-put-place-end put-place-requires same-length returns loop-less loop-again (need (tie.Need-same-length-2 Inv-loop μ-loop) (λ c. search needs))
     returns-2)

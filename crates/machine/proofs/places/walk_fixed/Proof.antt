@@ -1,4 +1,5 @@
 -- `machine::places::walk_fixed` meets its contract. Assumes nothing.
+use Rattle.lists.proofs.Needs.{need}
 use mathlib.Core.Path.{_≡_, sym, ap, _∙_}
 use mathlib.Core.Bool.{_||_}
 use Prim.Native.Nat.{ℕ, _-_, _/_, _≤_}
@@ -30,18 +31,12 @@ whole o =
     let a = o .before .before .before .before .args in
     sym (fixed-walk (a .mode) (a .phase) (a .size) (a .words .now) (a .room .now) (fitting o .0) (fitting o .1))
 
-minus-or-zero-requires : tie.Need-minus-or-zero-requires
-minus-or-zero-requires c κs = search needs
-
 returns : tie.Need-returns
 returns c = let a = c .before .before .before .before .args in
     fixed-numbered (a .mode) (a .phase) (a .size) (a .words .now) (a .room .now) _ (fixed-none (a .mode) (a .phase) (a .size) (a .words .now) (a .room .now) (sym (asked (c .before)) ∙ c .if1 .taken))
 
 walk-all-requires : tie.Need-walk-all-requires
 walk-all-requires c κs = fitting (c .before .before)
-
-same-length : tie.Need-same-length
-same-length c = search needs
 
 returns-2 : tie.Need-returns-2
 returns-2 c =
@@ -55,17 +50,8 @@ shared-slice-read-met-at c = let e = c .before in omega (arith, e .if2 .left, fi
 sub-met-at : tie.Need-sub-met-at
 sub-met-at c = let h = fitting (c .before .before) .0 in search needs
 
-met-at-requires : tie.Need-met-at-requires
-met-at-requires c κs = search needs
-
-is-nothing-requires : tie.Need-is-nothing-requires
-is-nothing-requires c κs = search needs
-
 walk-all-requires-2 : tie.Need-walk-all-requires-2
 walk-all-requires-2 c κs = fitting (c .before .before .before .before .before .before)
-
-same-length-2 : tie.Need-same-length-2
-same-length-2 c = search needs
 
 returns-3 : tie.Need-returns-3
 returns-3 c =
@@ -79,17 +65,11 @@ sub-put-place c = let h = fitting (c .before .before .before .before .before) .0
 part-put-place-start : tie.Need-part-put-place-start
 part-put-place-start c = let h = fitting (c .before .before .before .before .before) .0 in search needs
 
-part-put-place-end : tie.Need-part-put-place-end
-part-put-place-end c = search needs
-
 put-place-requires : tie.Need-put-place-requires
 put-place-requires c κs =
     let o = c .before .before .before .before .before .before .before in
     let a = o .before .before .before .before .args in
     front-fit (a .size) _ (a .words .now) (fitting o .1)
-
-same-length-3 : tie.Need-same-length-3
-same-length-3 c = search needs
 
 returns-4 : tie.Need-returns-4
 returns-4 c =
@@ -107,23 +87,9 @@ returns-4 c =
 
 pub walk-fixed-spec : {M : Type 1} → statement M
 walk-fixed-spec =
-    tie.close
-    (tie.spec
-    minus-or-zero-requires
-    returns
-    walk-all-requires
-    same-length
-    returns-2
-    shared-slice-read-met-at
-    sub-met-at
-    met-at-requires
-    is-nothing-requires
-    walk-all-requires-2
-    same-length-2
-    returns-3
-    sub-put-place
-    part-put-place-start
-    part-put-place-end
-    put-place-requires
-    same-length-3
-    returns-4)
+    tie.close (tie.spec
+    (need tie.Need-minus-or-zero-requires (λ c κs. search needs)) returns walk-all-requires (need tie.Need-same-length (λ c. search needs)) returns-2
+    shared-slice-read-met-at sub-met-at (need tie.Need-met-at-requires (λ c κs. search needs))
+    (need tie.Need-is-nothing-requires (λ c κs. search needs)) walk-all-requires-2 (need tie.Need-same-length-2 (λ c. search needs)) returns-3
+    sub-put-place part-put-place-start (need tie.Need-part-put-place-end (λ c. search needs)) put-place-requires
+    (need tie.Need-same-length-3 (λ c. search needs)) returns-4)

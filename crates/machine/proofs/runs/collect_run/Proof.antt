@@ -1,4 +1,5 @@
 -- `machine::runs::collect_run` meets its contract. Assumes nothing.
+use Rattle.lists.proofs.Needs.{need}
 use mathlib.Core.Path.{_≡_, sym, ap, _∙_}
 use mathlib.Core.List.{map}
 use Prim.Native.Nat.{ℕ, _-_, _+_, _≤_, min}
@@ -42,20 +43,8 @@ fits x =
     let g = x .before .before .before .before .before .before .before .before .args in
     data-fits (g .kind) (g .n) (g .m) (length (g .room .now)) (g .words .now) (x .before .run-of .result) (found (x .before)) (x .if1 .left)
 
-limit-of-requires : tie.Need-limit-of-requires
-limit-of-requires c κs = search needs
-
-minus-or-zero-requires : tie.Need-minus-or-zero-requires
-minus-or-zero-requires c κs = search needs
-
-smaller-of-requires : tie.Need-smaller-of-requires
-smaller-of-requires c κs = search needs
-
 slice-aggregate-run-of : tie.Need-slice-aggregate-run-of
 slice-aggregate-run-of c = front-long _ _ (omega (arith, most-is (c .before)))
-
-run-of-requires : tie.Need-run-of-requires
-run-of-requires c κs = search needs
 
 returns : tie.Need-returns
 returns c = (sym (c .if1 .taken) ∙ found (c .before), let g = c .before .before .before .before .before .before .before .before .args in paste-zero (g .room .now) (g .m) (map (valueOf (g .mode)) (g .words .now)))
@@ -69,20 +58,11 @@ slice-aggregate-copy-values c = front-long _ _ (within (c .before .before))
 mul-copy-values : tie.Need-mul-copy-values
 mul-copy-values c = let h = fits (c .before) in search needs
 
-sub-copy-values : tie.Need-sub-copy-values
-sub-copy-values c = search needs
-
-part-copy-values-start : tie.Need-part-copy-values-start
-part-copy-values-start c = search needs
-
 part-copy-values-end : tie.Need-part-copy-values-end
 part-copy-values-end c = fits (c .before)
 
 copy-values-requires : tie.Need-copy-values-requires
 copy-values-requires c κs = same-long _ _ _ _ (fits (c .before .before)) (within (c .before .before .before))
-
-same-length : tie.Need-same-length
-same-length c = search needs
 
 returns-2 : tie.Need-returns-2
 returns-2 c =
@@ -92,20 +72,9 @@ returns-2 c =
 
 pub collect-run-spec : {M : Type 1} → statement M
 collect-run-spec =
-    tie.close
-    (tie.spec
-    limit-of-requires
-    minus-or-zero-requires
-    smaller-of-requires
-    slice-aggregate-run-of
-    run-of-requires
-    returns
-    add-e
-    slice-aggregate-copy-values
-    mul-copy-values
-    sub-copy-values
-    part-copy-values-start
-    part-copy-values-end
-    copy-values-requires
-    same-length
-    returns-2)
+    tie.close (tie.spec
+    (need tie.Need-limit-of-requires (λ c κs. search needs)) (need tie.Need-minus-or-zero-requires (λ c κs. search needs))
+    (need tie.Need-smaller-of-requires (λ c κs. search needs)) slice-aggregate-run-of (need tie.Need-run-of-requires (λ c κs. search needs)) returns
+    add-e slice-aggregate-copy-values mul-copy-values (need tie.Need-sub-copy-values (λ c. search needs))
+    (need tie.Need-part-copy-values-start (λ c. search needs)) part-copy-values-end copy-values-requires
+    (need tie.Need-same-length (λ c. search needs)) returns-2)

@@ -1,4 +1,5 @@
 -- `machine::runs::run_of` meets its contract. Assumes nothing.
+use Rattle.lists.proofs.Needs.{need}
 use mathlib.Core.Path.{_≡_, sym, _∙_}
 use Prim.Native.Nat.{_+_, _-_, _≤_}
 use native.Mathlib.Nat.{zero-add}
@@ -18,25 +19,10 @@ abbrev μ-loop : tie.MeasureT-loop
 loop-holds : tie.Need-loop-holds Inv-loop μ-loop
 loop-holds c = (search needs, zero-add _)
 
-mul-is-code : tie.Need-mul-is-code Inv-loop μ-loop
-mul-is-code c = search needs
-
-shared-slice-read-is-code : tie.Need-shared-slice-read-is-code Inv-loop μ-loop
-shared-slice-read-is-code c = search needs
-
-is-code-requires : tie.Need-is-code-requires Inv-loop μ-loop
-is-code-requires c κs = search needs
-
 returns : tie.Need-returns Inv-loop μ-loop
 returns c =
     let l = c .before .before .before .before .loop in
     run-found _ (l .i) (c .before .before .before .loop-test .taken) (sym (c .before .is-code .ensures) ∙ c .if1 .taken) ∙ l .inv .1
-
-add-i : tie.Need-add-i Inv-loop μ-loop
-add-i c = search needs
-
-loop-less : tie.Need-loop-less Inv-loop μ-loop
-loop-less c = search needs
 
 loop-again : tie.Need-loop-again Inv-loop μ-loop
 loop-again c =
@@ -48,16 +34,8 @@ returns-2 c = run-out _ (c .before .loop .i) (c .loop-test .left) ∙ c .before 
 
 pub run-of-spec : {M : Type 1} → statement M
 run-of-spec =
-    tie.close
-    (tie.spec
-    Inv-loop
-    μ-loop
-    loop-holds
-    mul-is-code
-    shared-slice-read-is-code
-    is-code-requires
-    returns
-    add-i
-    loop-less
-    loop-again
-    returns-2)
+    tie.close (tie.spec
+    Inv-loop μ-loop loop-holds (need (tie.Need-mul-is-code Inv-loop μ-loop) (λ c. search needs))
+    (need (tie.Need-shared-slice-read-is-code Inv-loop μ-loop) (λ c. search needs))
+    (need (tie.Need-is-code-requires Inv-loop μ-loop) (λ c κs. search needs)) returns (need (tie.Need-add-i Inv-loop μ-loop) (λ c. search needs))
+    (need (tie.Need-loop-less Inv-loop μ-loop) (λ c. search needs)) loop-again returns-2)

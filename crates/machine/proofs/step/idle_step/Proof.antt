@@ -1,37 +1,8 @@
 -- `machine::step::idle_step` meets its contract. Assumes nothing.
+use Rattle.lists.proofs.Needs.{need}
 use borrow.Author.Needs.{needs}
 use Rattle.machine.proofs.step.idle_step.Statement.{statement}
 use Rattle.machine.proofs.step.idle_step.Tie as tie
-
-enum-told : tie.Need-enum-told
-enum-told c = search needs
-
-go-on-requires : tie.Need-go-on-requires
-go-on-requires c κs = search needs
-
-enum-told-2 : tie.Need-enum-told-2
-enum-told-2 c = search needs
-
-go-on-requires-2 : tie.Need-go-on-requires-2
-go-on-requires-2 c κs = search needs
-
-enum-told-3 : tie.Need-enum-told-3
-enum-told-3 c = search needs
-
-go-on-requires-3 : tie.Need-go-on-requires-3
-go-on-requires-3 c κs = search needs
-
-enum-told-4 : tie.Need-enum-told-4
-enum-told-4 c = search needs
-
-go-on-requires-4 : tie.Need-go-on-requires-4
-go-on-requires-4 c κs = search needs
-
-enum-told-5 : tie.Need-enum-told-5
-enum-told-5 c = search needs
-
-go-on-requires-5 : tie.Need-go-on-requires-5
-go-on-requires-5 c κs = search needs
 
 returns : tie.Need-returns
 returns c = simp (c .before .enum-told .given .1) (c .go-on .ensures)
@@ -50,20 +21,10 @@ returns-5 c = simp (c .before .enum-told5 .given .1) (c .go-on5 .ensures)
 
 pub idle-step-spec : {M : Type 1} → statement M
 idle-step-spec =
-    tie.close
-    (tie.spec
-    enum-told
-    go-on-requires
-    enum-told-2
-    go-on-requires-2
-    enum-told-3
-    go-on-requires-3
-    enum-told-4
-    go-on-requires-4
-    enum-told-5
-    go-on-requires-5
-    returns
-    returns-2
-    returns-3
-    returns-4
+    tie.close (tie.spec
+    (need tie.Need-enum-told (λ c. search needs)) (need tie.Need-go-on-requires (λ c κs. search needs))
+    (need tie.Need-enum-told-2 (λ c. search needs)) (need tie.Need-go-on-requires-2 (λ c κs. search needs))
+    (need tie.Need-enum-told-3 (λ c. search needs)) (need tie.Need-go-on-requires-3 (λ c κs. search needs))
+    (need tie.Need-enum-told-4 (λ c. search needs)) (need tie.Need-go-on-requires-4 (λ c κs. search needs))
+    (need tie.Need-enum-told-5 (λ c. search needs)) (need tie.Need-go-on-requires-5 (λ c κs. search needs)) returns returns-2 returns-3 returns-4
     returns-5)

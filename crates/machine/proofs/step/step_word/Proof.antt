@@ -1,4 +1,5 @@
 -- `machine::step::step_word` meets its contract. Assumes nothing.
+use Rattle.lists.proofs.Needs.{need}
 use mathlib.Core.Path.{sym, ap, ap₂, _∙_}
 use Rattle.machine.specs.declared.step.Step.{Step}
 use Rattle.machine.specs.Machine.{stepOf, countStep, counted}
@@ -6,69 +7,6 @@ use Rattle.machine.proofs.StepLaws.{step-numbered}
 use borrow.Author.Needs.{needs}
 use Rattle.machine.proofs.step.step_word.Statement.{statement}
 use Rattle.machine.proofs.step.step_word.Tie as tie
-
-class-of-requires : tie.Need-class-of-requires
-class-of-requires c κs = search needs
-
-cast-b : tie.Need-cast-b
-cast-b c = search needs
-
-enum-told : tie.Need-enum-told
-enum-told c = search needs
-
-idle-step-requires : tie.Need-idle-step-requires
-idle-step-requires c κs = search needs
-
-enum-told-2 : tie.Need-enum-told-2
-enum-told-2 c = search needs
-
-kind-step-requires : tie.Need-kind-step-requires
-kind-step-requires c κs = search needs
-
-enum-known-phase : tie.Need-enum-known-phase
-enum-known-phase c = search needs
-
-go-on-requires : tie.Need-go-on-requires
-go-on-requires c κs = search needs
-
-count-step-requires : tie.Need-count-step-requires
-count-step-requires c κs = search needs
-
-enum-known-phase-2 : tie.Need-enum-known-phase-2
-enum-known-phase-2 c = search needs
-
-go-on-requires-2 : tie.Need-go-on-requires-2
-go-on-requires-2 c κs = search needs
-
-count-step-requires-2 : tie.Need-count-step-requires-2
-count-step-requires-2 c κs = search needs
-
-enum-known-phase-3 : tie.Need-enum-known-phase-3
-enum-known-phase-3 c = search needs
-
-go-on-requires-3 : tie.Need-go-on-requires-3
-go-on-requires-3 c κs = search needs
-
-count-step-requires-3 : tie.Need-count-step-requires-3
-count-step-requires-3 c κs = search needs
-
-enum-known-phase-4 : tie.Need-enum-known-phase-4
-enum-known-phase-4 c = search needs
-
-count-of-requires : tie.Need-count-of-requires
-count-of-requires c κs = search needs
-
-count-whole-requires : tie.Need-count-whole-requires
-count-whole-requires c κs = search needs
-
-count-step-requires-4 : tie.Need-count-step-requires-4
-count-step-requires-4 c κs = search needs
-
-enum-known-phase-5 : tie.Need-enum-known-phase-5
-enum-known-phase-5 c = search needs
-
-data-step-requires : tie.Need-data-step-requires
-data-step-requires c κs = search needs
 
 returns : tie.Need-returns
 unfolding stepOf
@@ -100,33 +38,15 @@ returns-7 c = let a = c .before .before .before .before .before .args in step-nu
 
 pub step-word-spec : {M : Type 1} → statement M
 step-word-spec =
-    tie.close
-    (tie.spec
-    class-of-requires
-    cast-b
-    enum-told
-    idle-step-requires
-    enum-told-2
-    kind-step-requires
-    enum-known-phase
-    go-on-requires
-    count-step-requires
-    enum-known-phase-2
-    go-on-requires-2
-    count-step-requires-2
-    enum-known-phase-3
-    go-on-requires-3
-    count-step-requires-3
-    enum-known-phase-4
-    count-of-requires
-    count-whole-requires
-    count-step-requires-4
-    enum-known-phase-5
-    data-step-requires
-    returns
-    returns-2
-    returns-3
-    returns-4
-    returns-5
-    returns-6
-    returns-7)
+    tie.close (tie.spec
+    (need tie.Need-class-of-requires (λ c κs. search needs)) (need tie.Need-cast-b (λ c. search needs)) (need tie.Need-enum-told (λ c. search needs))
+    (need tie.Need-idle-step-requires (λ c κs. search needs)) (need tie.Need-enum-told-2 (λ c. search needs))
+    (need tie.Need-kind-step-requires (λ c κs. search needs)) (need tie.Need-enum-known-phase (λ c. search needs))
+    (need tie.Need-go-on-requires (λ c κs. search needs)) (need tie.Need-count-step-requires (λ c κs. search needs))
+    (need tie.Need-enum-known-phase-2 (λ c. search needs)) (need tie.Need-go-on-requires-2 (λ c κs. search needs))
+    (need tie.Need-count-step-requires-2 (λ c κs. search needs)) (need tie.Need-enum-known-phase-3 (λ c. search needs))
+    (need tie.Need-go-on-requires-3 (λ c κs. search needs)) (need tie.Need-count-step-requires-3 (λ c κs. search needs))
+    (need tie.Need-enum-known-phase-4 (λ c. search needs)) (need tie.Need-count-of-requires (λ c κs. search needs))
+    (need tie.Need-count-whole-requires (λ c κs. search needs)) (need tie.Need-count-step-requires-4 (λ c κs. search needs))
+    (need tie.Need-enum-known-phase-5 (λ c. search needs)) (need tie.Need-data-step-requires (λ c κs. search needs)) returns returns-2 returns-3
+    returns-4 returns-5 returns-6 returns-7)

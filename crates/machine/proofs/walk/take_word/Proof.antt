@@ -1,4 +1,5 @@
 -- `machine::walk::take_word` meets its contract. Assumes nothing.
+use Rattle.lists.proofs.Needs.{need}
 use mathlib.Core.Path.{sym, ap, ap₂, _∙_}
 use Prim.Native.Nat.{ℕ}
 use lib.ListN.{length}
@@ -9,24 +10,12 @@ use borrow.Author.Needs.{needs}
 use Rattle.machine.proofs.walk.take_word.Statement.{statement}
 use Rattle.machine.proofs.walk.take_word.Tie as tie
 
-step-word-requires : tie.Need-step-word-requires
-step-word-requires c κs = search needs
-
-collected-of-requires : tie.Need-collected-of-requires
-collected-of-requires c κs = search needs
-
-value-of-requires : tie.Need-value-of-requires
-value-of-requires c κs = search needs
-
 put-value-requires : tie.Need-put-value-requires
 put-value-requires c κs = λ e.
     let s = c .before .before .before in
     let g = s .before .before .args in
     rw (c .before .before .collected-of .ensures)
     (step-steady (length (g .room .now)) (g .phase) (g .w) .inside (sym (ap (λ (x : Step). x .keeps) (s .step-word .ensures .0)) ∙ e))
-
-same-length : tie.Need-same-length
-same-length c = search needs
 
 returns : tie.Need-returns
 returns c =
@@ -40,11 +29,6 @@ returns c =
 
 pub take-word-spec : {M : Type 1} → statement M
 take-word-spec =
-    tie.close
-    (tie.spec
-    step-word-requires
-    collected-of-requires
-    value-of-requires
-    put-value-requires
-    same-length
-    returns)
+    tie.close (tie.spec
+    (need tie.Need-step-word-requires (λ c κs. search needs)) (need tie.Need-collected-of-requires (λ c κs. search needs))
+    (need tie.Need-value-of-requires (λ c κs. search needs)) put-value-requires (need tie.Need-same-length (λ c. search needs)) returns)

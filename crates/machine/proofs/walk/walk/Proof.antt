@@ -1,4 +1,5 @@
 -- `machine::walk::walk` meets its contract. Assumes nothing.
+use Rattle.lists.proofs.Needs.{need}
 use mathlib.Core.Path.{_≡_, refl, sym, ap, _∙_}
 use mathlib.Core.List.{List}
 use Prim.Native.Nat.{ℕ, _-_, _+_}
@@ -44,47 +45,11 @@ ran t =
 loop-holds : tie.Need-loop-holds Inv-loop μ-loop
 loop-holds c = (going-start _ _ _ _, refl)
 
-mul-take-run : tie.Need-mul-take-run Inv-loop μ-loop
-mul-take-run c = search needs
-
-sub-take-run : tie.Need-sub-take-run Inv-loop μ-loop
-sub-take-run c = search needs
-
-part-take-run-start : tie.Need-part-take-run-start Inv-loop μ-loop
-part-take-run-start c = search needs
-
-part-take-run-end : tie.Need-part-take-run-end Inv-loop μ-loop
-part-take-run-end c = search needs
-
-take-run-requires : tie.Need-take-run-requires Inv-loop μ-loop
-take-run-requires c κs = search needs
-
 add-i : tie.Need-add-i Inv-loop μ-loop
 add-i c = let h = ran (c .before .before .before) .inside in search needs
 
-same-length : tie.Need-same-length Inv-loop μ-loop
-same-length c = search needs
-
 returns : tie.Need-returns Inv-loop μ-loop
 returns c = walk-numbered _ _ _ _ _ (going-end _ _ _ _ _ _ (ran (c .before .before .before .before)) (c .if1 .taken))
-
-mul-take-word : tie.Need-mul-take-word Inv-loop μ-loop
-mul-take-word c = search needs
-
-shared-slice-read-take-word : tie.Need-shared-slice-read-take-word Inv-loop μ-loop
-shared-slice-read-take-word c = search needs
-
-take-word-requires : tie.Need-take-word-requires Inv-loop μ-loop
-take-word-requires c κs = search needs
-
-add-i-2 : tie.Need-add-i-2 Inv-loop μ-loop
-add-i-2 c = search needs
-
-is-nothing-requires : tie.Need-is-nothing-requires Inv-loop μ-loop
-is-nothing-requires c κs = search needs
-
-same-length-2 : tie.Need-same-length-2 Inv-loop μ-loop
-same-length-2 c = search needs
 
 returns-2 : tie.Need-returns-2 Inv-loop μ-loop
 returns-2 c =
@@ -93,9 +58,6 @@ returns-2 c =
     walk-numbered _ _ _ _ _
     (going-stop _ _ _ _ _ _ (ran t) (w .before .before .before .if1 .left) (w .take-word .result) (w .take-word .ensures .0) _ (w .take-word .ensures .1)
     (sym (c .before .is-nothing .ensures) ∙ not-true _ (c .if2 .taken)))
-
-loop-less : tie.Need-loop-less Inv-loop μ-loop
-loop-less c = search needs
 
 loop-again : tie.Need-loop-again Inv-loop μ-loop
 loop-again c =
@@ -106,35 +68,19 @@ loop-again c =
       w .take-word .kept .1 .1 .1 .0 ∙ t .take-run .kept .1 .1 .1 .0 ∙ t .before .before .before .before .loop .inv .1,
     )
 
-same-length-3 : tie.Need-same-length-3 Inv-loop μ-loop
-same-length-3 c = search needs
-
 returns-3 : tie.Need-returns-3 Inv-loop μ-loop
 returns-3 c = walk-numbered _ _ _ _ _ (going-end _ _ _ _ _ _ (c .before .loop .inv .0) (c .loop-test .left))
 
 pub walk-spec : {M : Type 1} → statement M
 walk-spec =
-    tie.close
-    (tie.spec
-    Inv-loop
-    μ-loop
-    loop-holds
-    mul-take-run
-    sub-take-run
-    part-take-run-start
-    part-take-run-end
-    take-run-requires
-    add-i
-    same-length
-    returns
-    mul-take-word
-    shared-slice-read-take-word
-    take-word-requires
-    add-i-2
-    is-nothing-requires
-    same-length-2
-    returns-2
-    loop-less
-    loop-again
-    same-length-3
-    returns-3)
+    tie.close (tie.spec
+    Inv-loop μ-loop loop-holds (need (tie.Need-mul-take-run Inv-loop μ-loop) (λ c. search needs))
+    (need (tie.Need-sub-take-run Inv-loop μ-loop) (λ c. search needs)) (need (tie.Need-part-take-run-start Inv-loop μ-loop) (λ c. search needs))
+    (need (tie.Need-part-take-run-end Inv-loop μ-loop) (λ c. search needs)) (need (tie.Need-take-run-requires Inv-loop μ-loop) (λ c κs. search needs))
+    add-i (need (tie.Need-same-length Inv-loop μ-loop) (λ c. search needs)) returns
+    (need (tie.Need-mul-take-word Inv-loop μ-loop) (λ c. search needs))
+    (need (tie.Need-shared-slice-read-take-word Inv-loop μ-loop) (λ c. search needs))
+    (need (tie.Need-take-word-requires Inv-loop μ-loop) (λ c κs. search needs)) (need (tie.Need-add-i-2 Inv-loop μ-loop) (λ c. search needs))
+    (need (tie.Need-is-nothing-requires Inv-loop μ-loop) (λ c κs. search needs)) (need (tie.Need-same-length-2 Inv-loop μ-loop) (λ c. search needs))
+    returns-2 (need (tie.Need-loop-less Inv-loop μ-loop) (λ c. search needs)) loop-again
+    (need (tie.Need-same-length-3 Inv-loop μ-loop) (λ c. search needs)) returns-3)

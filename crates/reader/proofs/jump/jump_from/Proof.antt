@@ -1,4 +1,5 @@
 -- `reader::jump::jump_from` meets its contract. Assumes nothing.
+use Rattle.lists.proofs.Needs.{need}
 use mathlib.Core.Path.{_≡_, sym, ap, _∙_}
 use Prim.Native.Nat.{ℕ}
 use lib.IntN.{subℕ}
@@ -12,21 +13,6 @@ use borrow.Author.Needs.{needs}
 use Rattle.reader.proofs.jump.jump_from.Statement.{statement}
 use Rattle.reader.proofs.jump.jump_from.Tie as tie
 
-enum-told : tie.Need-enum-told
-enum-told c = search needs
-
-enum-known-last : tie.Need-enum-known-last
-enum-known-last c = search needs
-
-next-number-requires : tie.Need-next-number-requires
-next-number-requires c κs = search needs
-
-folded-less-requires : tie.Need-folded-less-requires
-folded-less-requires c κs = search needs
-
-returns : tie.Need-returns
-returns c = search needs
-
 returns-2 : tie.Need-returns-2
 returns-2 c =
     let a = c .before .before .before .before .before .args in
@@ -35,11 +21,7 @@ returns-2 c =
 
 pub jump-from-spec : {M : Type 1} → statement M
 jump-from-spec =
-    tie.close
-    (tie.spec
-    enum-told
-    enum-known-last
-    next-number-requires
-    folded-less-requires
-    returns
-    returns-2)
+    tie.close (tie.spec
+    (need tie.Need-enum-told (λ c. search needs)) (need tie.Need-enum-known-last (λ c. search needs))
+    (need tie.Need-next-number-requires (λ c κs. search needs)) (need tie.Need-folded-less-requires (λ c κs. search needs))
+    (need tie.Need-returns (λ c. search needs)) returns-2)

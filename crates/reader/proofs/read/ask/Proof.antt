@@ -1,4 +1,5 @@
 -- `reader::read::ask` meets its contract. Assumes nothing.
+use Rattle.lists.proofs.Needs.{need}
 use mathlib.Core.Path.{_≡_, sym, ap, _∙_}
 use mathlib.Core.Bool.{Bool, true, false, _&&_}
 use native.Mathlib.Omega.{arith}
@@ -34,26 +35,11 @@ course x =
     let st = x .before .before .before .before .before .args .st in
     x .look .ensures .0 ∙ ap (impossibleAfter (st .system) (st .last) (st .settings) (st .place)) (x .before .is-busy .ensures)
 
-is-fit-requires : tie.Need-is-fit-requires
-is-fit-requires c κs = search needs
-
-barred-requires : tie.Need-barred-requires
-barred-requires c κs = search needs
-
 returns : tie.Need-returns
 returns c =
     let x = c .before .before in
     let e = c .barred .ensures in
     (e ∙ fault-1 (x .before .before .args .capacity) (x .before .before .args .st) _ _ (asked x false (not-true _ (c .before .if1 .taken))), λ z. absurd (omega (arith, e, z)))
-
-is-busy-requires : tie.Need-is-busy-requires
-is-busy-requires c κs = search needs
-
-look-requires : tie.Need-look-requires
-look-requires c κs = search needs
-
-barred-requires-2 : tie.Need-barred-requires-2
-barred-requires-2 c κs = search needs
 
 returns-2 : tie.Need-returns-2
 unfolding impossibleIn
@@ -62,12 +48,6 @@ returns-2 c =
     let e = c .barred2 .ensures in
     let bad = or-left _ _ (sym (course x) ∙ c .before .if2 .taken) in
     (e ∙ fault-2 _ (x .before .before .before .before .before .args .st) _ _ (fit (x .before .before)) bad, λ z. absurd (omega (arith, e, z)))
-
-is-misphased-requires : tie.Need-is-misphased-requires
-is-misphased-requires c κs = search needs
-
-barred-requires-3 : tie.Need-barred-requires-3
-barred-requires-3 c κs = search needs
 
 returns-3 : tie.Need-returns-3
 unfolding impossibleIn
@@ -91,16 +71,8 @@ returns-4 c =
 
 pub ask-spec : {M : Type 1} → statement M
 ask-spec =
-    tie.close
-    (tie.spec
-    is-fit-requires
-    barred-requires
-    returns
-    is-busy-requires
-    look-requires
-    barred-requires-2
-    returns-2
-    is-misphased-requires
-    barred-requires-3
-    returns-3
-    returns-4)
+    tie.close (tie.spec
+    (need tie.Need-is-fit-requires (λ c κs. search needs)) (need tie.Need-barred-requires (λ c κs. search needs)) returns
+    (need tie.Need-is-busy-requires (λ c κs. search needs)) (need tie.Need-look-requires (λ c κs. search needs))
+    (need tie.Need-barred-requires-2 (λ c κs. search needs)) returns-2 (need tie.Need-is-misphased-requires (λ c κs. search needs))
+    (need tie.Need-barred-requires-3 (λ c κs. search needs)) returns-3 returns-4)

@@ -1,4 +1,5 @@
 -- `reader::read::read_in` meets its contract. Assumes nothing.
+use Rattle.lists.proofs.Needs.{need}
 use mathlib.Core.Path.{sym, ap, _∙_}
 use native.Mathlib.Omega.{arith}
 use Rattle.course.specs.declared.Place.{Place}
@@ -9,22 +10,10 @@ use borrow.Author.Needs.{needs}
 use Rattle.reader.proofs.read.read_in.Statement.{statement}
 use Rattle.reader.proofs.read.read_in.Tie as tie
 
-ask-requires : tie.Need-ask-requires
-ask-requires c κs = search needs
-
 returns : tie.Need-returns
 returns c =
     let g = c .before .before .before .before .before .args in
     read-refused (g .capacity) (g .st) (g .line .now) (g .room .now) _ (c .before .before .ask .ensures .0) (c .if1 .taken)
-
-enum-told : tie.Need-enum-told
-enum-told c = search needs
-
-start-requires : tie.Need-start-requires
-start-requires c κs = search needs
-
-enum-known-place : tie.Need-enum-known-place
-enum-known-place c = search needs
 
 read-on-requires : tie.Need-read-on-requires
 read-on-requires c κs =
@@ -43,9 +32,6 @@ returns-2 c =
     ∙ ap (λ (p : Place). readFrom p (g .st) (g .line .now) (g .room .now)) (sym (c .before .enum-told .given .1))
     ∙ read-goes (g .capacity) (g .st) (g .line .now) (g .room .now) _ (f .before .before .ask .ensures .0) (f .if1 .left)
 
-same-length : tie.Need-same-length
-same-length c = search needs
-
 returns-3 : tie.Need-returns-3
 returns-3 c =
     let o = c .before .before in
@@ -57,14 +43,7 @@ returns-3 c =
 
 pub read-in-spec : {M : Type 1} → statement M
 read-in-spec =
-    tie.close
-    (tie.spec
-    ask-requires
-    returns
-    enum-told
-    start-requires
-    enum-known-place
-    read-on-requires
-    returns-2
-    same-length
-    returns-3)
+    tie.close (tie.spec
+    (need tie.Need-ask-requires (λ c κs. search needs)) returns (need tie.Need-enum-told (λ c. search needs))
+    (need tie.Need-start-requires (λ c κs. search needs)) (need tie.Need-enum-known-place (λ c. search needs)) read-on-requires returns-2
+    (need tie.Need-same-length (λ c. search needs)) returns-3)

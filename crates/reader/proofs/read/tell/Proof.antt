@@ -1,25 +1,8 @@
 -- `reader::read::tell` meets its contract. Assumes nothing.
+use Rattle.lists.proofs.Needs.{need}
 use borrow.Author.Needs.{needs}
 use Rattle.reader.proofs.read.tell.Statement.{statement}
 use Rattle.reader.proofs.read.tell.Tie as tie
-
-enum-told : tie.Need-enum-told
-enum-told c = search needs
-
-becomes-requires : tie.Need-becomes-requires
-becomes-requires c κs = search needs
-
-enum-known-met : tie.Need-enum-known-met
-enum-known-met c = search needs
-
-becomes-requires-2 : tie.Need-becomes-requires-2
-becomes-requires-2 c κs = search needs
-
-enum-known-met-2 : tie.Need-enum-known-met-2
-enum-known-met-2 c = search needs
-
-becomes-requires-3 : tie.Need-becomes-requires-3
-becomes-requires-3 c κs = search needs
 
 returns : tie.Need-returns
 returns c = simp (c .before .enum-told .given .1, c .becomes .ensures)
@@ -32,14 +15,7 @@ returns-3 c = simp (c .before .before .met2 .given .1, c .becomes3 .ensures)
 
 pub tell-spec : {M : Type 1} → statement M
 tell-spec =
-    tie.close
-    (tie.spec
-    enum-told
-    becomes-requires
-    enum-known-met
-    becomes-requires-2
-    enum-known-met-2
-    becomes-requires-3
-    returns
-    returns-2
-    returns-3)
+    tie.close (tie.spec
+    (need tie.Need-enum-told (λ c. search needs)) (need tie.Need-becomes-requires (λ c κs. search needs))
+    (need tie.Need-enum-known-met (λ c. search needs)) (need tie.Need-becomes-requires-2 (λ c κs. search needs))
+    (need tie.Need-enum-known-met-2 (λ c. search needs)) (need tie.Need-becomes-requires-3 (λ c κs. search needs)) returns returns-2 returns-3)

@@ -1,4 +1,5 @@
 -- `reader::read::walk_from` meets its contract. Assumes nothing.
+use Rattle.lists.proofs.Needs.{need}
 use mathlib.Core.Path.{_≡_, sym, ap, _∙_}
 use mathlib.Core.Bool.{false}
 use mathlib.Core.List.{List}
@@ -48,9 +49,6 @@ gridded n =
     let x = n .before .before .before .before in
     grid _ _ _ _ _ (is-ready x) (x .system-of .result) (x .system-of .ensures) (fixed-line n) _ (x .before .before .before .pre .4)
 
-system-of-requires : tie.Need-system-of-requires
-system-of-requires c κs = search needs
-
 sub-a : tie.Need-sub-a
 sub-a c = payload-in _ _ _ _ (c .before .before .before .before .before .pre .0) (is-ready (c .before .before)) _ (c .before .before .system-of .ensures)
 
@@ -59,9 +57,6 @@ add-e c = let z = spanned (c .before .before) in omega (arith, z .ends, z .small
 
 add-i : tie.Need-add-i
 add-i c = let z = spanned (c .before .before) in omega (arith, z .ends, z .small, z .inside)
-
-is-variable-requires : tie.Need-is-variable-requires
-is-variable-requires c κs = search needs
 
 mul-walk : tie.Need-mul-walk
 mul-walk c = let z = spanned (c .before .before .before .before) in omega (arith, z .ends, z .small, z .inside)
@@ -74,12 +69,6 @@ part-walk-start c = let z = spanned (c .before .before .before .before) in omega
 
 part-walk-end : tie.Need-part-walk-end
 part-walk-end c = spanned (c .before .before .before .before) .ends
-
-walk-requires : tie.Need-walk-requires
-walk-requires c κs = search needs
-
-same-length : tie.Need-same-length
-same-length c = search needs
 
 returns : tie.Need-returns
 unfolding walkFrom
@@ -103,12 +92,6 @@ part-walk-fixed-start c = let z = spanned (c .before .before .before .before) in
 part-walk-fixed-end : tie.Need-part-walk-fixed-end
 part-walk-fixed-end c = spanned (c .before .before .before .before) .ends
 
-walk-fixed-requires : tie.Need-walk-fixed-requires
-walk-fixed-requires c κs = search needs
-
-same-length-2 : tie.Need-same-length-2
-same-length-2 c = search needs
-
 returns-2 : tie.Need-returns-2
 unfolding walkFrom
 returns-2 c =
@@ -129,24 +112,8 @@ returns-2 c =
 
 pub walk-from-spec : {M : Type 1} → statement M
 walk-from-spec =
-    tie.close
-    (tie.spec
-    system-of-requires
-    sub-a
-    add-e
-    add-i
-    is-variable-requires
-    mul-walk
-    sub-walk
-    part-walk-start
-    part-walk-end
-    walk-requires
-    same-length
-    returns
-    mul-walk-fixed
-    sub-walk-fixed
-    part-walk-fixed-start
-    part-walk-fixed-end
-    walk-fixed-requires
-    same-length-2
-    returns-2)
+    tie.close (tie.spec
+    (need tie.Need-system-of-requires (λ c κs. search needs)) sub-a add-e add-i (need tie.Need-is-variable-requires (λ c κs. search needs)) mul-walk
+    sub-walk part-walk-start part-walk-end (need tie.Need-walk-requires (λ c κs. search needs)) (need tie.Need-same-length (λ c. search needs))
+    returns mul-walk-fixed sub-walk-fixed part-walk-fixed-start part-walk-fixed-end (need tie.Need-walk-fixed-requires (λ c κs. search needs))
+    (need tie.Need-same-length-2 (λ c. search needs)) returns-2)

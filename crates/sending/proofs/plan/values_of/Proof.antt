@@ -1,4 +1,5 @@
 -- `sending::plan::values_of` meets its contract. Assumes nothing.
+use Rattle.lists.proofs.Needs.{need}
 use mathlib.Core.Path.{_≡_}
 use Prim.Native.Nat.{_<_, _≤_, _-_}
 use lib.ListN.{length}
@@ -12,41 +13,10 @@ Inv-loop kind s₀ x₀ i₀ s x i = (i ≤ 3000) × (x < 256) × (length s ≡ 
 abbrev μ-loop : tie.MeasureT-loop
 μ-loop kind s₀ x₀ i₀ s x i = 3000 - i
 
-loop-holds : tie.Need-loop-holds Inv-loop μ-loop
-loop-holds c = search needs
-
-mul-s : tie.Need-mul-s Inv-loop μ-loop
-mul-s c = search needs
-
-array-write-s : tie.Need-array-write-s Inv-loop μ-loop
-array-write-s c = search needs
-
-add-x : tie.Need-add-x Inv-loop μ-loop
-add-x c = search needs
-
-add-i : tie.Need-add-i Inv-loop μ-loop
-add-i c = search needs
-
-loop-less : tie.Need-loop-less Inv-loop μ-loop
-loop-less c = search needs
-
-loop-again : tie.Need-loop-again Inv-loop μ-loop
-loop-again c = search needs
-
-returns : tie.Need-returns Inv-loop μ-loop
-returns c = search needs
-
 pub values-of-spec : {M : Type 1} → statement M
 values-of-spec =
-    tie.close
-    (tie.spec
-    Inv-loop
-    μ-loop
-    loop-holds
-    mul-s
-    array-write-s
-    add-x
-    add-i
-    loop-less
-    loop-again
-    returns)
+    tie.close (tie.spec
+    Inv-loop μ-loop (need (tie.Need-loop-holds Inv-loop μ-loop) (λ c. search needs)) (need (tie.Need-mul-s Inv-loop μ-loop) (λ c. search needs))
+    (need (tie.Need-array-write-s Inv-loop μ-loop) (λ c. search needs)) (need (tie.Need-add-x Inv-loop μ-loop) (λ c. search needs))
+    (need (tie.Need-add-i Inv-loop μ-loop) (λ c. search needs)) (need (tie.Need-loop-less Inv-loop μ-loop) (λ c. search needs))
+    (need (tie.Need-loop-again Inv-loop μ-loop) (λ c. search needs)) (need (tie.Need-returns Inv-loop μ-loop) (λ c. search needs)))

@@ -1,4 +1,5 @@
 -- `words::checksum::checksum_of` meets its contract. Assumes nothing.
+use Rattle.lists.proofs.Needs.{need}
 use mathlib.Core.Path.{_≡_, ap, _∙_}
 use Prim.Native.Nat.{ℕ, _+_, _-_, _%_, _<_, _≤_}
 use native.Mathlib.Nat.{zero-add}
@@ -21,28 +22,10 @@ abbrev μ-loop : tie.MeasureT-loop
 loop-holds : tie.Need-loop-holds Inv-loop μ-loop
 loop-holds c = (search needs, search needs, ap (λ (x : ℕ). x % 512) (zero-add _))
 
-mul-sum : tie.Need-mul-sum Inv-loop μ-loop
-mul-sum c = search needs
-
-shared-slice-read-sum : tie.Need-shared-slice-read-sum Inv-loop μ-loop
-shared-slice-read-sum c = search needs
-
-add-sum : tie.Need-add-sum Inv-loop μ-loop
-add-sum c = search needs
-
-add-i : tie.Need-add-i Inv-loop μ-loop
-add-i c = search needs
-
-loop-less : tie.Need-loop-less Inv-loop μ-loop
-loop-less c = search needs
-
 loop-again : tie.Need-loop-again Inv-loop μ-loop
 loop-again c =
     let l = c .before .before .loop in
     (search needs, search needs, sum-next (l .sum) (l .i) (now (c .before .before .before .before .args .s)) (c .before .loop-test .taken) ∙ l .inv .2)
-
-data-word-requires : tie.Need-data-word-requires Inv-loop μ-loop
-data-word-requires c κs = search needs
 
 returns : tie.Need-returns Inv-loop μ-loop
 unfolding sumOf checksum
@@ -55,16 +38,8 @@ returns c =
 
 pub checksum-of-spec : {M : Type 1} → statement M
 checksum-of-spec =
-    tie.close
-    (tie.spec
-    Inv-loop
-    μ-loop
-    loop-holds
-    mul-sum
-    shared-slice-read-sum
-    add-sum
-    add-i
-    loop-less
-    loop-again
-    data-word-requires
-    returns)
+    tie.close (tie.spec
+    Inv-loop μ-loop loop-holds (need (tie.Need-mul-sum Inv-loop μ-loop) (λ c. search needs))
+    (need (tie.Need-shared-slice-read-sum Inv-loop μ-loop) (λ c. search needs)) (need (tie.Need-add-sum Inv-loop μ-loop) (λ c. search needs))
+    (need (tie.Need-add-i Inv-loop μ-loop) (λ c. search needs)) (need (tie.Need-loop-less Inv-loop μ-loop) (λ c. search needs)) loop-again
+    (need (tie.Need-data-word-requires Inv-loop μ-loop) (λ c κs. search needs)) returns)

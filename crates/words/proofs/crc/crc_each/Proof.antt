@@ -1,4 +1,5 @@
 -- `words::crc::crc_each` meets its contract. Assumes nothing.
+use Rattle.lists.proofs.Needs.{need}
 use mathlib.Core.Path.{_≡_, refl, sym, ap, _∙_, subst}
 use Prim.Native.Nat.{ℕ, _+_, _-_, _^_, _<_, _≤_}
 use denote.Ref.{now}
@@ -18,21 +19,6 @@ abbrev μ-loop : tie.MeasureT-loop
 loop-holds : tie.Need-loop-holds Inv-loop μ-loop
 loop-holds c = (search needs, (c .before .pre, refl))
 
-mul-crc-word : tie.Need-mul-crc-word Inv-loop μ-loop
-mul-crc-word c = search needs
-
-shared-slice-read-crc-word : tie.Need-shared-slice-read-crc-word Inv-loop μ-loop
-shared-slice-read-crc-word c = search needs
-
-crc-word-requires : tie.Need-crc-word-requires Inv-loop μ-loop
-crc-word-requires c κs = search needs
-
-add-i : tie.Need-add-i Inv-loop μ-loop
-add-i c = search needs
-
-loop-less : tie.Need-loop-less Inv-loop μ-loop
-loop-less c = search needs
-
 loop-again : tie.Need-loop-again Inv-loop μ-loop
 loop-again c =
     let l = c .before .before .before .loop in
@@ -46,15 +32,8 @@ returns c =
 
 pub crc-each-spec : {M : Type 1} → statement M
 crc-each-spec =
-    tie.close
-    (tie.spec
-    Inv-loop
-    μ-loop
-    loop-holds
-    mul-crc-word
-    shared-slice-read-crc-word
-    crc-word-requires
-    add-i
-    loop-less
-    loop-again
-    returns)
+    tie.close (tie.spec
+    Inv-loop μ-loop loop-holds (need (tie.Need-mul-crc-word Inv-loop μ-loop) (λ c. search needs))
+    (need (tie.Need-shared-slice-read-crc-word Inv-loop μ-loop) (λ c. search needs))
+    (need (tie.Need-crc-word-requires Inv-loop μ-loop) (λ c κs. search needs)) (need (tie.Need-add-i Inv-loop μ-loop) (λ c. search needs))
+    (need (tie.Need-loop-less Inv-loop μ-loop) (λ c. search needs)) loop-again returns)

@@ -1,4 +1,5 @@
 -- `words::crc::crc_of` meets its contract. Assumes nothing.
+use Rattle.lists.proofs.Needs.{need}
 use mathlib.Core.Path.{_≡_, sym, ap, _∙_, subst}
 use Prim.Native.Nat.{ℕ, _+_, _-_, _^_, _<_, _≤_}
 use native.Mathlib.Nat.{mod-lt}
@@ -22,51 +23,12 @@ abbrev μ-loop : tie.MeasureT-loop
 loop-holds : tie.Need-loop-holds Inv-loop μ-loop
 loop-holds c = (search needs, (mod-lt (c .before .args .c) (lit< tt), crc-register (c .before .args .c) (now (c .before .args .s))))
 
-sub-loop : tie.Need-sub-loop Inv-loop μ-loop
-sub-loop c = search needs
-
-add-e : tie.Need-add-e Inv-loop μ-loop
-add-e c = search needs
-
-mul-crc-six : tie.Need-mul-crc-six Inv-loop μ-loop
-mul-crc-six c = search needs
-
-sub-crc-six : tie.Need-sub-crc-six Inv-loop μ-loop
-sub-crc-six c = search needs
-
-part-crc-six-start : tie.Need-part-crc-six-start Inv-loop μ-loop
-part-crc-six-start c = search needs
-
-part-crc-six-end : tie.Need-part-crc-six-end Inv-loop μ-loop
-part-crc-six-end c = search needs
-
-crc-six-requires : tie.Need-crc-six-requires Inv-loop μ-loop
-crc-six-requires c κs = search needs
-
-loop-less : tie.Need-loop-less Inv-loop μ-loop
-loop-less c = search needs
-
 loop-again : tie.Need-loop-again Inv-loop μ-loop
 loop-again c =
     let l = c .before .before .before .loop in
     let s = now (c .before .before .before .before .before .args .s) in
     let six : l .i + 6 - l .i ≡ 6 = omega arith in
     (search needs, (subst (λ (r : ℕ). r < 2 ^ 18) (sym (c .crc-six .ensures)) (crc-lt (l .x) _), ap (λ (r : ℕ). crcOf r (drop (l .i + 6) s)) (c .crc-six .ensures ∙ ap (λ (n : ℕ). crcOf (l .x) (take n (drop (l .i) s))) six) ∙ crc-part (l .x) (l .i) 6 s ∙ l .inv .1 .1))
-
-mul-crc-each : tie.Need-mul-crc-each Inv-loop μ-loop
-mul-crc-each c = search needs
-
-sub-crc-each : tie.Need-sub-crc-each Inv-loop μ-loop
-sub-crc-each c = search needs
-
-part-crc-each-start : tie.Need-part-crc-each-start Inv-loop μ-loop
-part-crc-each-start c = search needs
-
-part-crc-each-end : tie.Need-part-crc-each-end Inv-loop μ-loop
-part-crc-each-end c = search needs
-
-crc-each-requires : tie.Need-crc-each-requires Inv-loop μ-loop
-crc-each-requires c κs = search needs
 
 returns : tie.Need-returns Inv-loop μ-loop
 returns c =
@@ -76,23 +38,12 @@ returns c =
 
 pub crc-of-spec : {M : Type 1} → statement M
 crc-of-spec =
-    tie.close
-    (tie.spec
-    Inv-loop
-    μ-loop
-    loop-holds
-    sub-loop
-    add-e
-    mul-crc-six
-    sub-crc-six
-    part-crc-six-start
-    part-crc-six-end
-    crc-six-requires
-    loop-less
-    loop-again
-    mul-crc-each
-    sub-crc-each
-    part-crc-each-start
-    part-crc-each-end
-    crc-each-requires
+    tie.close (tie.spec
+    Inv-loop μ-loop loop-holds (need (tie.Need-sub-loop Inv-loop μ-loop) (λ c. search needs))
+    (need (tie.Need-add-e Inv-loop μ-loop) (λ c. search needs)) (need (tie.Need-mul-crc-six Inv-loop μ-loop) (λ c. search needs))
+    (need (tie.Need-sub-crc-six Inv-loop μ-loop) (λ c. search needs)) (need (tie.Need-part-crc-six-start Inv-loop μ-loop) (λ c. search needs))
+    (need (tie.Need-part-crc-six-end Inv-loop μ-loop) (λ c. search needs)) (need (tie.Need-crc-six-requires Inv-loop μ-loop) (λ c κs. search needs))
+    (need (tie.Need-loop-less Inv-loop μ-loop) (λ c. search needs)) loop-again (need (tie.Need-mul-crc-each Inv-loop μ-loop) (λ c. search needs))
+    (need (tie.Need-sub-crc-each Inv-loop μ-loop) (λ c. search needs)) (need (tie.Need-part-crc-each-start Inv-loop μ-loop) (λ c. search needs))
+    (need (tie.Need-part-crc-each-end Inv-loop μ-loop) (λ c. search needs)) (need (tie.Need-crc-each-requires Inv-loop μ-loop) (λ c κs. search needs))
     returns)

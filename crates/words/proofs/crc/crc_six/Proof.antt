@@ -1,4 +1,5 @@
 -- `words::crc::crc_six` meets its contract. Assumes nothing.
+use Rattle.lists.proofs.Needs.{need}
 use mathlib.Core.Path.{_≡_, refl, sym}
 use Prim.Native.Nat.{ℕ}
 use mathlib.Core.Path.{_∙_}
@@ -10,72 +11,6 @@ use Rattle.words.proofs.Shifts.{six-words}
 use borrow.Author.Needs.{needs}
 use Rattle.words.proofs.crc.crc_six.Statement.{statement}
 use Rattle.words.proofs.crc.crc_six.Tie as tie
-
-shared-slice-read-ten : tie.Need-shared-slice-read-ten
-shared-slice-read-ten c = search needs
-
-ten-requires : tie.Need-ten-requires
-ten-requires c κs = search needs
-
-mul-upper : tie.Need-mul-upper
-mul-upper c = search needs
-
-shared-slice-read-ten-2 : tie.Need-shared-slice-read-ten-2
-shared-slice-read-ten-2 c = search needs
-
-ten-requires-2 : tie.Need-ten-requires-2
-ten-requires-2 c κs = search needs
-
-add-upper : tie.Need-add-upper
-add-upper c = search needs
-
-mul-upper-2 : tie.Need-mul-upper-2
-mul-upper-2 c = search needs
-
-shared-slice-read-ten-3 : tie.Need-shared-slice-read-ten-3
-shared-slice-read-ten-3 c = search needs
-
-ten-requires-3 : tie.Need-ten-requires-3
-ten-requires-3 c κs = search needs
-
-add-upper-2 : tie.Need-add-upper-2
-add-upper-2 c = search needs
-
-shared-slice-read-ten-4 : tie.Need-shared-slice-read-ten-4
-shared-slice-read-ten-4 c = search needs
-
-ten-requires-4 : tie.Need-ten-requires-4
-ten-requires-4 c κs = search needs
-
-mul-lower : tie.Need-mul-lower
-mul-lower c = search needs
-
-shared-slice-read-ten-5 : tie.Need-shared-slice-read-ten-5
-shared-slice-read-ten-5 c = search needs
-
-ten-requires-5 : tie.Need-ten-requires-5
-ten-requires-5 c κs = search needs
-
-add-lower : tie.Need-add-lower
-add-lower c = search needs
-
-mul-lower-2 : tie.Need-mul-lower-2
-mul-lower-2 c = search needs
-
-shared-slice-read-ten-6 : tie.Need-shared-slice-read-ten-6
-shared-slice-read-ten-6 c = search needs
-
-ten-requires-6 : tie.Need-ten-requires-6
-ten-requires-6 c κs = search needs
-
-add-lower-2 : tie.Need-add-lower-2
-add-lower-2 c = search needs
-
-mul-after-sixty : tie.Need-mul-after-sixty
-mul-after-sixty c = search needs
-
-add-after-sixty : tie.Need-add-after-sixty
-add-after-sixty c = search needs
 
 after-sixty-requires : tie.Need-after-sixty-requires
 after-sixty-requires c κs =
@@ -99,29 +34,15 @@ returns c =
 
 pub crc-six-spec : {M : Type 1} → statement M
 crc-six-spec =
-    tie.close
-    (tie.spec
-    shared-slice-read-ten
-    ten-requires
-    mul-upper
-    shared-slice-read-ten-2
-    ten-requires-2
-    add-upper
-    mul-upper-2
-    shared-slice-read-ten-3
-    ten-requires-3
-    add-upper-2
-    shared-slice-read-ten-4
-    ten-requires-4
-    mul-lower
-    shared-slice-read-ten-5
-    ten-requires-5
-    add-lower
-    mul-lower-2
-    shared-slice-read-ten-6
-    ten-requires-6
-    add-lower-2
-    mul-after-sixty
-    add-after-sixty
-    after-sixty-requires
-    returns)
+    tie.close (tie.spec
+    (need tie.Need-shared-slice-read-ten (λ c. search needs)) (need tie.Need-ten-requires (λ c κs. search needs))
+    (need tie.Need-mul-upper (λ c. search needs)) (need tie.Need-shared-slice-read-ten-2 (λ c. search needs))
+    (need tie.Need-ten-requires-2 (λ c κs. search needs)) (need tie.Need-add-upper (λ c. search needs))
+    (need tie.Need-mul-upper-2 (λ c. search needs)) (need tie.Need-shared-slice-read-ten-3 (λ c. search needs))
+    (need tie.Need-ten-requires-3 (λ c κs. search needs)) (need tie.Need-add-upper-2 (λ c. search needs))
+    (need tie.Need-shared-slice-read-ten-4 (λ c. search needs)) (need tie.Need-ten-requires-4 (λ c κs. search needs))
+    (need tie.Need-mul-lower (λ c. search needs)) (need tie.Need-shared-slice-read-ten-5 (λ c. search needs))
+    (need tie.Need-ten-requires-5 (λ c κs. search needs)) (need tie.Need-add-lower (λ c. search needs))
+    (need tie.Need-mul-lower-2 (λ c. search needs)) (need tie.Need-shared-slice-read-ten-6 (λ c. search needs))
+    (need tie.Need-ten-requires-6 (λ c κs. search needs)) (need tie.Need-add-lower-2 (λ c. search needs))
+    (need tie.Need-mul-after-sixty (λ c. search needs)) (need tie.Need-add-after-sixty (λ c. search needs)) after-sixty-requires returns)

@@ -1,4 +1,5 @@
 -- `writer::adding::add_block` meets its contract. Assumes nothing.
+use Rattle.lists.proofs.Needs.{need}
 use mathlib.Core.Path.{_≡_, sym, _∙_}
 use lib.ListN.{length}
 use Rattle.writer.specs.Adding.{addFault}
@@ -14,23 +15,14 @@ clear : (v : tie.After-is-variable) →
     addFault (g .w) (length (g .line .now)) (g .kind) (g .values .now) ≡ 0
 clear v = sym (v .before .before .add-fault .ensures) ∙ v .before .if1 .left
 
-add-fault-requires : tie.Need-add-fault-requires
-add-fault-requires c κs = search needs
-
 returns : tie.Need-returns
 returns c =
     let g = c .before .before .before .before .args in
     adds-numbered (g .w) (g .line .now) (g .kind) (g .values .now) _
     (add-refused (g .w) (g .line .now) (g .kind) (g .values .now) _ (c .before .add-fault .ensures) (c .if1 .taken))
 
-is-variable-requires : tie.Need-is-variable-requires
-is-variable-requires c κs = search needs
-
 lay-part-requires : tie.Need-lay-part-requires
 lay-part-requires c κs = let v = c .before .before in (clear v, sym (v .is-variable .ensures) ∙ c .before .if2 .taken)
-
-same-length : tie.Need-same-length
-same-length c = search needs
 
 returns-2 : tie.Need-returns-2
 returns-2 c = adds-numbered _ _ _ _ _ (c .before .before .lay-part .ensures)
@@ -38,22 +30,11 @@ returns-2 c = adds-numbered _ _ _ _ _ (c .before .before .lay-part .ensures)
 lay-place-requires : tie.Need-lay-place-requires
 lay-place-requires c κs = let v = c .before .before in (clear v, sym (v .is-variable .ensures) ∙ c .before .if2 .left)
 
-same-length-2 : tie.Need-same-length-2
-same-length-2 c = search needs
-
 returns-3 : tie.Need-returns-3
 returns-3 c = adds-numbered _ _ _ _ _ (c .before .before .lay-place .ensures)
 
 pub add-block-spec : {M : Type 1} → statement M
 add-block-spec =
-    tie.close
-    (tie.spec
-    add-fault-requires
-    returns
-    is-variable-requires
-    lay-part-requires
-    same-length
-    returns-2
-    lay-place-requires
-    same-length-2
-    returns-3)
+    tie.close (tie.spec
+    (need tie.Need-add-fault-requires (λ c κs. search needs)) returns (need tie.Need-is-variable-requires (λ c κs. search needs)) lay-part-requires
+    (need tie.Need-same-length (λ c. search needs)) returns-2 lay-place-requires (need tie.Need-same-length-2 (λ c. search needs)) returns-3)

@@ -1,4 +1,5 @@
 -- `writer::adding::add_fault` meets its contract. Assumes nothing.
+use Rattle.lists.proofs.Needs.{need}
 use mathlib.Core.Path.{_≡_, sym, ap, ap₂, _∙_}
 use Prim.Native.Nat.{ℕ}
 use mathlib.Core.Bool.{Bool, false, _||_, not}
@@ -55,24 +56,12 @@ shaped : (c : tie.Else4) →
     illShaped (a .w .place) (a .w .settings .block) (a .kind) (length (a .values .now)) ≡ false
 shaped c = sym (c .before .is-ill-shaped .ensures) ∙ c .if4 .left
 
-is-fit-requires : tie.Need-is-fit-requires
-is-fit-requires c κs = search needs
-
 returns : tie.Need-returns
 unfolding addFault
 returns c =
     let a = c .before .before .before .before .args in
     let l : LowestOf (addFaults (a .w) (a .long) (a .kind) (a .values .now)) 1 = low-hit 1 (sym (ap not (c .before .is-fit .ensures)) ∙ c .if1 .taken) in
     l .is
-
-is-part-requires : tie.Need-is-part-requires
-is-part-requires c κs = search needs
-
-look-requires : tie.Need-look-requires
-look-requires c κs = search needs
-
-is-misshapen-requires : tie.Need-is-misshapen-requires
-is-misshapen-requires c κs = search needs
 
 returns-2 : tie.Need-returns-2
 unfolding addFault
@@ -81,9 +70,6 @@ returns-2 c =
     let a = e1 .before .before .before .before .args in
     let l : LowestOf (addFaults (a .w) (a .long) (a .kind) (a .values .now)) 2 = low-miss 1 (fit e1) (low-hit 2 (sym (looked (c .before .before)) ∙ c .if2 .taken)) in
     l .is
-
-is-valued-requires : tie.Need-is-valued-requires
-is-valued-requires c κs = search needs
 
 returns-3 : tie.Need-returns-3
 unfolding addFault
@@ -107,9 +93,6 @@ returns-4 c =
     let l : LowestOf (addFaults (a .w) (a .long) (a .kind) (a .values .now)) 18 = low-miss 1 (fit e1) (low-miss 2 (possible e2) (low-miss 17 (good e3) (low-hit 18 (sym (c .before .is-ill-shaped .ensures) ∙ c .if4 .taken)))) in
     l .is
 
-is-full-requires : tie.Need-is-full-requires
-is-full-requires c κs = search needs
-
 returns-5 : tie.Need-returns-5
 unfolding addFault
 returns-5 c =
@@ -120,15 +103,6 @@ returns-5 c =
     let a = e1 .before .before .before .before .args in
     let l : LowestOf (addFaults (a .w) (a .long) (a .kind) (a .values .now)) 19 = low-miss 1 (fit e1) (low-miss 2 (possible e2) (low-miss 17 (good e3) (low-miss 18 (shaped e4) (low-hit 19 (sym (filled (c .before)) ∙ c .if5 .taken))))) in
     l .is
-
-is-at-requires : tie.Need-is-at-requires
-is-at-requires c κs = search needs
-
-is-other-requires : tie.Need-is-other-requires
-is-other-requires c κs = search needs
-
-or-else-requires : tie.Need-or-else-requires
-or-else-requires c κs = search needs
 
 returns-6 : tie.Need-returns-6
 unfolding addFault
@@ -152,21 +126,9 @@ returns-6 c =
 
 pub add-fault-spec : {M : Type 1} → statement M
 add-fault-spec =
-    tie.close
-    (tie.spec
-    is-fit-requires
-    returns
-    is-part-requires
-    look-requires
-    is-misshapen-requires
-    returns-2
-    is-valued-requires
-    returns-3
-    is-ill-shaped-requires
-    returns-4
-    is-full-requires
-    returns-5
-    is-at-requires
-    is-other-requires
-    or-else-requires
-    returns-6)
+    tie.close (tie.spec
+    (need tie.Need-is-fit-requires (λ c κs. search needs)) returns (need tie.Need-is-part-requires (λ c κs. search needs))
+    (need tie.Need-look-requires (λ c κs. search needs)) (need tie.Need-is-misshapen-requires (λ c κs. search needs)) returns-2
+    (need tie.Need-is-valued-requires (λ c κs. search needs)) returns-3 is-ill-shaped-requires returns-4
+    (need tie.Need-is-full-requires (λ c κs. search needs)) returns-5 (need tie.Need-is-at-requires (λ c κs. search needs))
+    (need tie.Need-is-other-requires (λ c κs. search needs)) (need tie.Need-or-else-requires (λ c κs. search needs)) returns-6)

@@ -1,4 +1,5 @@
 -- `writer::adding::all_below` meets its contract. Assumes nothing.
+use Rattle.lists.proofs.Needs.{need}
 use mathlib.Core.Path.{refl}
 use Prim.Native.Nat.{_-_}
 use lib.Dec.{ltb}
@@ -17,18 +18,6 @@ abbrev μ-loop : tie.MeasureT-loop
 loop-holds : tie.Need-loop-holds Inv-loop μ-loop
 loop-holds c = test-start _ _
 
-mul-ok : tie.Need-mul-ok Inv-loop μ-loop
-mul-ok c = search needs
-
-shared-slice-read-ok : tie.Need-shared-slice-read-ok Inv-loop μ-loop
-shared-slice-read-ok c = search needs
-
-add-i : tie.Need-add-i Inv-loop μ-loop
-add-i c = search needs
-
-loop-less : tie.Need-loop-less Inv-loop μ-loop
-loop-less c = search needs
-
 loop-again : tie.Need-loop-again Inv-loop μ-loop
 loop-again c =
     let a = c .before .before .before .args in
@@ -41,14 +30,7 @@ returns c =
 
 pub all-below-spec : {M : Type 1} → statement M
 all-below-spec =
-    tie.close
-    (tie.spec
-    Inv-loop
-    μ-loop
-    loop-holds
-    mul-ok
-    shared-slice-read-ok
-    add-i
-    loop-less
-    loop-again
-    returns)
+    tie.close (tie.spec
+    Inv-loop μ-loop loop-holds (need (tie.Need-mul-ok Inv-loop μ-loop) (λ c. search needs))
+    (need (tie.Need-shared-slice-read-ok Inv-loop μ-loop) (λ c. search needs)) (need (tie.Need-add-i Inv-loop μ-loop) (λ c. search needs))
+    (need (tie.Need-loop-less Inv-loop μ-loop) (λ c. search needs)) loop-again returns)

@@ -1,4 +1,5 @@
 -- `writer::adding::is_ill_shaped` meets its contract. Assumes nothing.
+use Rattle.lists.proofs.Needs.{need}
 use mathlib.Core.Path.{sym, ap, ap₂, _∙_}
 use Prim.Native.Nat.{ℕ, _+_}
 use mathlib.Core.Bool.{Bool, _&&_, _||_, not}
@@ -18,15 +19,6 @@ returns c =
     let fixed = isAt (a .place) && not (isVariable (a .block)) in
     sym (ap (λ (b : Bool). b || (ltb 255 (a .kind) || (fixed && (not (eqb (a .n + 1) (sizeOf (a .block))) || eqb (a .kind) 0)))) (lt-ltb 16384 (a .n) (c .if1 .taken)))
 
-is-at-requires : tie.Need-is-at-requires
-is-at-requires c κs = search needs
-
-is-variable-requires : tie.Need-is-variable-requires
-is-variable-requires c κs = search needs
-
-add-result : tie.Need-add-result
-add-result c = search needs
-
 returns-2 : tie.Need-returns-2
 unfolding illShaped
 returns-2 c =
@@ -39,10 +31,6 @@ returns-2 c =
 
 pub is-ill-shaped-spec : {M : Type 1} → statement M
 is-ill-shaped-spec =
-    tie.close
-    (tie.spec
-    returns
-    is-at-requires
-    is-variable-requires
-    add-result
-    returns-2)
+    tie.close (tie.spec
+    returns (need tie.Need-is-at-requires (λ c κs. search needs)) (need tie.Need-is-variable-requires (λ c κs. search needs))
+    (need tie.Need-add-result (λ c. search needs)) returns-2)

@@ -1,4 +1,5 @@
 -- `writer::adding::lay_part` meets its contract. Assumes nothing.
+use Rattle.lists.proofs.Needs.{need}
 use mathlib.Core.Path.{sym, ap, _∙_, subst}
 use Prim.Native.Nat.{ℕ, _+_, _-_, _≤_, min}
 use native.Mathlib.Omega.{arith}
@@ -40,15 +41,6 @@ found y =
       index = ap (λ (x : System). x .length - x .payload + p) (s .system-of .ensures);
     }
 
-system-of-requires : tie.Need-system-of-requires
-system-of-requires c κs = search needs
-
-place-of-requires : tie.Need-place-of-requires
-place-of-requires c κs = search needs
-
-laid-of-requires : tie.Need-laid-of-requires
-laid-of-requires c κs = search needs
-
 add-left : tie.Need-add-left
 add-left c = omega (arith, accepted (c .before .before) .number)
 
@@ -58,14 +50,8 @@ sub-left c =
     let t = s .before .before .before in
     omega (arith, accepted s .left, count-variable (t .args .w .settings .block) (length (t .args .values .now)) (t .pre .1), c .laid-of .ensures)
 
-end-in-requires : tie.Need-end-in-requires
-end-in-requires c κs = search needs
-
 sub-smaller-of : tie.Need-sub-smaller-of
 sub-smaller-of c = omega (arith, accepted (c .before .before .before) .room, c .end-in .ensures, c .before .before .place-of .ensures)
-
-smaller-of-requires : tie.Need-smaller-of-requires
-smaller-of-requires c κs = search needs
 
 sub-a : tie.Need-sub-a
 sub-a c =
@@ -83,12 +69,6 @@ add-e c = let z = sizes (found (c .before)) in omega (arith, z .within, z .short
 mul-lay-words : tie.Need-mul-lay-words
 mul-lay-words c = let z = sizes (found (c .before)) in omega (arith, z .within, z .short, z .ends)
 
-sub-lay-words : tie.Need-sub-lay-words
-sub-lay-words c = search needs
-
-part-lay-words-start : tie.Need-part-lay-words-start
-part-lay-words-start c = search needs
-
 part-lay-words-end : tie.Need-part-lay-words-end
 part-lay-words-end c = let z = sizes (found (c .before)) in omega (arith, z .within, z .short, z .ends)
 
@@ -104,18 +84,6 @@ lay-words-requires c κs =
 rest-after-requires : tie.Need-rest-after-requires
 rest-after-requires c κs = let z = sizes (found (c .before .before .before .before .before)) in (z .byte, z .number, omega (arith, z .laid, z .few))
 
-told-requires : tie.Need-told-requires
-told-requires c κs = search needs
-
-add-t15 : tie.Need-add-t15
-add-t15 c = search needs
-
-moved-requires : tie.Need-moved-requires
-moved-requires c κs = search needs
-
-same-length : tie.Need-same-length
-same-length c = search needs
-
 returns : tie.Need-returns
 returns c =
     let y = c .before .before .before .before .before .before .before .before in
@@ -125,27 +93,10 @@ returns c =
 
 pub lay-part-spec : {M : Type 1} → statement M
 lay-part-spec =
-    tie.close
-    (tie.spec
-    system-of-requires
-    place-of-requires
-    laid-of-requires
-    add-left
-    sub-left
-    end-in-requires
-    sub-smaller-of
-    smaller-of-requires
-    sub-a
-    add-a
-    add-e
-    mul-lay-words
-    sub-lay-words
-    part-lay-words-start
-    part-lay-words-end
-    lay-words-requires
-    rest-after-requires
-    told-requires
-    add-t15
-    moved-requires
-    same-length
-    returns)
+    tie.close (tie.spec
+    (need tie.Need-system-of-requires (λ c κs. search needs)) (need tie.Need-place-of-requires (λ c κs. search needs))
+    (need tie.Need-laid-of-requires (λ c κs. search needs)) add-left sub-left (need tie.Need-end-in-requires (λ c κs. search needs)) sub-smaller-of
+    (need tie.Need-smaller-of-requires (λ c κs. search needs)) sub-a add-a add-e mul-lay-words (need tie.Need-sub-lay-words (λ c. search needs))
+    (need tie.Need-part-lay-words-start (λ c. search needs)) part-lay-words-end lay-words-requires rest-after-requires
+    (need tie.Need-told-requires (λ c κs. search needs)) (need tie.Need-add-t15 (λ c. search needs))
+    (need tie.Need-moved-requires (λ c κs. search needs)) (need tie.Need-same-length (λ c. search needs)) returns)

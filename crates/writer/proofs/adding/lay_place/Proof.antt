@@ -1,4 +1,5 @@
 -- `writer::adding::lay_place` meets its contract. Assumes nothing.
+use Rattle.lists.proofs.Needs.{need}
 use mathlib.Core.Path.{sym, ap, subst}
 use Prim.Native.Nat.{_+_, _-_, _≤_}
 use native.Mathlib.Omega.{arith}
@@ -27,15 +28,6 @@ found q =
     place-found (g .w) (g .line .now) (g .kind) (g .values .now) (t .pre .0) (t .pre .1) _ _ (q .place-of .ensures)
     (ap (λ (x : System). x .length - x .payload + q .place-of .result) (s .system-of .ensures))
 
-system-of-requires : tie.Need-system-of-requires
-system-of-requires c κs = search needs
-
-place-of-requires : tie.Need-place-of-requires
-place-of-requires c κs = search needs
-
-add-k : tie.Need-add-k
-add-k c = search needs
-
 sub-a : tie.Need-sub-a
 sub-a c =
     let s = c .before .before in
@@ -52,12 +44,6 @@ add-e c = let z = sizes (found (c .before)) in omega (arith, z .within, z .short
 mul-lay-fixed : tie.Need-mul-lay-fixed
 mul-lay-fixed c = let z = sizes (found (c .before)) in omega (arith, z .within, z .short, z .ends)
 
-sub-lay-fixed : tie.Need-sub-lay-fixed
-sub-lay-fixed c = search needs
-
-part-lay-fixed-start : tie.Need-part-lay-fixed-start
-part-lay-fixed-start c = search needs
-
 part-lay-fixed-end : tie.Need-part-lay-fixed-end
 part-lay-fixed-end c = let z = sizes (found (c .before)) in omega (arith, z .within, z .short, z .ends)
 
@@ -70,12 +56,6 @@ lay-fixed-requires c κs =
 add-t11 : tie.Need-add-t11
 add-t11 c = let z = sizes (found (c .before .before .before .before .before)) in omega (arith, z .ends)
 
-moved-requires : tie.Need-moved-requires
-moved-requires c κs = search needs
-
-same-length : tie.Need-same-length
-same-length c = search needs
-
 returns : tie.Need-returns
 returns c =
     let l = c .before .before .before in
@@ -85,20 +65,8 @@ returns c =
 
 pub lay-place-spec : {M : Type 1} → statement M
 lay-place-spec =
-    tie.close
-    (tie.spec
-    system-of-requires
-    place-of-requires
-    add-k
-    sub-a
-    add-a
-    add-e
-    mul-lay-fixed
-    sub-lay-fixed
-    part-lay-fixed-start
-    part-lay-fixed-end
-    lay-fixed-requires
-    add-t11
-    moved-requires
-    same-length
-    returns)
+    tie.close (tie.spec
+    (need tie.Need-system-of-requires (λ c κs. search needs)) (need tie.Need-place-of-requires (λ c κs. search needs))
+    (need tie.Need-add-k (λ c. search needs)) sub-a add-a add-e mul-lay-fixed (need tie.Need-sub-lay-fixed (λ c. search needs))
+    (need tie.Need-part-lay-fixed-start (λ c. search needs)) part-lay-fixed-end lay-fixed-requires add-t11
+    (need tie.Need-moved-requires (λ c κs. search needs)) (need tie.Need-same-length (λ c. search needs)) returns)

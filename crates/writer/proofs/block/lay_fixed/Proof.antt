@@ -1,4 +1,5 @@
 -- `writer::block::lay_fixed` meets its contract. Assumes nothing.
+use Rattle.lists.proofs.Needs.{need}
 use mathlib.Core.Path.{_≡_, refl, sym, ap, _∙_}
 use mathlib.Core.List.{List, [], _∷_, _++_, map}
 use Prim.Native.Nat.{ℕ, _+_, _-_, _≤_}
@@ -21,29 +22,11 @@ one b = omega (arith, b .before .before .before .pre)
 behind : (d xs : List ℕ) (n : ℕ) → length d ≡ n + 1 → length xs ≡ 1 → length (take (length (xs ++ drop 1 d) - 1) (drop 1 (xs ++ drop 1 d))) ≡ n
 behind d xs n h e = second-long d xs 1 (omega arith) e ∙ omega arith
 
-byte-word-requires : tie.Need-byte-word-requires
-byte-word-requires c κs = search needs
-
-slice-aggregate-copy-in : tie.Need-slice-aggregate-copy-in
-slice-aggregate-copy-in c = search needs
-
-slice-relend-prefix-copy-in : tie.Need-slice-relend-prefix-copy-in
-slice-relend-prefix-copy-in c = search needs
-
 slice-aggregate-copy-in-2 : tie.Need-slice-aggregate-copy-in-2
 slice-aggregate-copy-in-2 c = let b = c .before .before in sym (length-take-le 1 (b .before .before .before .args .out .now) (one b))
 
 copy-in-requires : tie.Need-copy-in-requires
 copy-in-requires c κs = let b = c .before .before in length-take-le 1 (b .before .before .before .args .out .now) (one b)
-
-sub-put-values : tie.Need-sub-put-values
-sub-put-values c = search needs
-
-part-put-values-start : tie.Need-part-put-values-start
-part-put-values-start c = search needs
-
-part-put-values-end : tie.Need-part-put-values-end
-part-put-values-end c = search needs
 
 put-values-requires : tie.Need-put-values-requires
 put-values-requires c κs =
@@ -51,9 +34,6 @@ put-values-requires c κs =
     let b = i .before .before .before in
     let s = b .before .before .before in
     behind (s .args .out .now) (i .copy-in .last .1 .0) _ (s .pre) (ap length (i .copy-in .ensures))
-
-same-length : tie.Need-same-length
-same-length c = search needs
 
 returns : tie.Need-returns
 unfolding fixedWords
@@ -68,16 +48,8 @@ returns c =
 
 pub lay-fixed-spec : {M : Type 1} → statement M
 lay-fixed-spec =
-    tie.close
-    (tie.spec
-    byte-word-requires
-    slice-aggregate-copy-in
-    slice-relend-prefix-copy-in
-    slice-aggregate-copy-in-2
-    copy-in-requires
-    sub-put-values
-    part-put-values-start
-    part-put-values-end
-    put-values-requires
-    same-length
-    returns)
+    tie.close (tie.spec
+    (need tie.Need-byte-word-requires (λ c κs. search needs)) (need tie.Need-slice-aggregate-copy-in (λ c. search needs))
+    (need tie.Need-slice-relend-prefix-copy-in (λ c. search needs)) slice-aggregate-copy-in-2 copy-in-requires
+    (need tie.Need-sub-put-values (λ c. search needs)) (need tie.Need-part-put-values-start (λ c. search needs))
+    (need tie.Need-part-put-values-end (λ c. search needs)) put-values-requires (need tie.Need-same-length (λ c. search needs)) returns)

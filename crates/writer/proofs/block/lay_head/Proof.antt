@@ -1,4 +1,5 @@
 -- `writer::block::lay_head` meets its contract. Assumes nothing.
+use Rattle.lists.proofs.Needs.{need}
 use mathlib.Core.Path.{_≡_, ap, _∙_}
 use mathlib.Core.List.{List}
 use Prim.Native.Nat.{ℕ, _/_}
@@ -9,29 +10,8 @@ use borrow.Author.Needs.{needs}
 use Rattle.writer.proofs.block.lay_head.Statement.{statement}
 use Rattle.writer.proofs.block.lay_head.Tie as tie
 
-byte-word-requires : tie.Need-byte-word-requires
-byte-word-requires c κs = search needs
-
-count-word-requires : tie.Need-count-word-requires
-count-word-requires c κs = search needs
-
-count-word-requires-2 : tie.Need-count-word-requires-2
-count-word-requires-2 c κs = search needs
-
-count-word-requires-3 : tie.Need-count-word-requires-3
-count-word-requires-3 c κs = search needs
-
-count-word-requires-4 : tie.Need-count-word-requires-4
-count-word-requires-4 c κs = search needs
-
-slice-aggregate-copy-from : tie.Need-slice-aggregate-copy-from
-slice-aggregate-copy-from c = search needs
-
 copy-from-requires : tie.Need-copy-from-requires
 copy-from-requires c κs = c .before .before .before .before .before .before .before .before .pre
-
-same-length : tie.Need-same-length
-same-length c = search needs
 
 returns : tie.Need-returns
 unfolding countWords
@@ -46,14 +26,8 @@ returns c =
 
 pub lay-head-spec : {M : Type 1} → statement M
 lay-head-spec =
-    tie.close
-    (tie.spec
-    byte-word-requires
-    count-word-requires
-    count-word-requires-2
-    count-word-requires-3
-    count-word-requires-4
-    slice-aggregate-copy-from
-    copy-from-requires
-    same-length
-    returns)
+    tie.close (tie.spec
+    (need tie.Need-byte-word-requires (λ c κs. search needs)) (need tie.Need-count-word-requires (λ c κs. search needs))
+    (need tie.Need-count-word-requires-2 (λ c κs. search needs)) (need tie.Need-count-word-requires-3 (λ c κs. search needs))
+    (need tie.Need-count-word-requires-4 (λ c κs. search needs)) (need tie.Need-slice-aggregate-copy-from (λ c. search needs)) copy-from-requires
+    (need tie.Need-same-length (λ c. search needs)) returns)

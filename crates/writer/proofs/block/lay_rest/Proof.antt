@@ -1,4 +1,5 @@
 -- `writer::block::lay_rest` meets its contract. Assumes nothing.
+use Rattle.lists.proofs.Needs.{need}
 use mathlib.Core.Path.{_≡_, sym, ap, _∙_}
 use mathlib.Core.List.{[], _∷_, map}
 use Prim.Native.Nat.{ℕ, _-_, min}
@@ -14,33 +15,6 @@ use Rattle.writer.proofs.block.lay_rest.Tie as tie
 some : (m : tie.After-smaller-of) → let a = m .before .before .before .before .args in m .smaller-of .result ≡ min (length (a .out .now)) (length (a .values .now) - a .j)
 some m = let a = m .before .before .before .before .args in m .smaller-of .ensures ∙ ap (min (length (a .out .now))) (m .before .minus-or-zero .ensures)
 
-minus-or-zero-requires : tie.Need-minus-or-zero-requires
-minus-or-zero-requires c κs = search needs
-
-smaller-of-requires : tie.Need-smaller-of-requires
-smaller-of-requires c κs = search needs
-
-smaller-of-requires-2 : tie.Need-smaller-of-requires-2
-smaller-of-requires-2 c κs = search needs
-
-add-e : tie.Need-add-e
-add-e c = search needs
-
-mul-put-values : tie.Need-mul-put-values
-mul-put-values c = search needs
-
-sub-put-values : tie.Need-sub-put-values
-sub-put-values c = search needs
-
-part-put-values-start : tie.Need-part-put-values-start
-part-put-values-start c = search needs
-
-part-put-values-end : tie.Need-part-put-values-end
-part-put-values-end c = search needs
-
-slice-relend-prefix-put-values : tie.Need-slice-relend-prefix-put-values
-slice-relend-prefix-put-values c = search needs
-
 slice-aggregate-put-values : tie.Need-slice-aggregate-put-values
 slice-aggregate-put-values c =
     let m = c .before .before .before in
@@ -55,24 +29,6 @@ put-values-requires c κs =
     part-long (a .j) (q .smaller-of2 .result) (m .smaller-of .result) (a .out .now) (a .values .now)
     (some m) (q .smaller-of2 .ensures)
 
-minus-or-zero-requires-2 : tie.Need-minus-or-zero-requires-2
-minus-or-zero-requires-2 c κs = search needs
-
-slice-aggregate-copy-from : tie.Need-slice-aggregate-copy-from
-slice-aggregate-copy-from c = search needs
-
-mul-copy-from : tie.Need-mul-copy-from
-mul-copy-from c = search needs
-
-sub-copy-from : tie.Need-sub-copy-from
-sub-copy-from c = search needs
-
-part-copy-from-start : tie.Need-part-copy-from-start
-part-copy-from-start c = search needs
-
-part-copy-from-end : tie.Need-part-copy-from-end
-part-copy-from-end c = search needs
-
 copy-from-requires : tie.Need-copy-from-requires
 copy-from-requires c κs =
     let p = c .before .before .before .before .before in
@@ -84,9 +40,6 @@ copy-from-requires c κs =
     let k = m .smaller-of .result in
     let is = p .put-values .ensures ∙ part-map f (q .smaller-of2 .result) k v ∙ ap (λ (i : ℕ). take k (drop i (map f v))) (q .smaller-of2 .ensures) in
     second-in (a .j) (length v) k (map f v) (endCode ∷ []) (a .out .now) _ (length-map v f) (some m) is _ _ (c .before .before .minus-or-zero2 .ensures) (m .before .before .before .before .pre)
-
-same-length : tie.Need-same-length
-same-length c = search needs
 
 returns : tie.Need-returns
 returns c =
@@ -102,25 +55,13 @@ returns c =
 
 pub lay-rest-spec : {M : Type 1} → statement M
 lay-rest-spec =
-    tie.close
-    (tie.spec
-    minus-or-zero-requires
-    smaller-of-requires
-    smaller-of-requires-2
-    add-e
-    mul-put-values
-    sub-put-values
-    part-put-values-start
-    part-put-values-end
-    slice-relend-prefix-put-values
-    slice-aggregate-put-values
-    put-values-requires
-    minus-or-zero-requires-2
-    slice-aggregate-copy-from
-    mul-copy-from
-    sub-copy-from
-    part-copy-from-start
-    part-copy-from-end
-    copy-from-requires
-    same-length
-    returns)
+    tie.close (tie.spec
+    (need tie.Need-minus-or-zero-requires (λ c κs. search needs)) (need tie.Need-smaller-of-requires (λ c κs. search needs))
+    (need tie.Need-smaller-of-requires-2 (λ c κs. search needs)) (need tie.Need-add-e (λ c. search needs))
+    (need tie.Need-mul-put-values (λ c. search needs)) (need tie.Need-sub-put-values (λ c. search needs))
+    (need tie.Need-part-put-values-start (λ c. search needs)) (need tie.Need-part-put-values-end (λ c. search needs))
+    (need tie.Need-slice-relend-prefix-put-values (λ c. search needs)) slice-aggregate-put-values put-values-requires
+    (need tie.Need-minus-or-zero-requires-2 (λ c κs. search needs)) (need tie.Need-slice-aggregate-copy-from (λ c. search needs))
+    (need tie.Need-mul-copy-from (λ c. search needs)) (need tie.Need-sub-copy-from (λ c. search needs))
+    (need tie.Need-part-copy-from-start (λ c. search needs)) (need tie.Need-part-copy-from-end (λ c. search needs)) copy-from-requires
+    (need tie.Need-same-length (λ c. search needs)) returns)

@@ -1,4 +1,5 @@
 -- `writer::block::lay_words` meets its contract. Assumes nothing.
+use Rattle.lists.proofs.Needs.{need}
 use mathlib.Core.Path.{_≡_, refl, sym, ap, _∙_}
 use mathlib.Core.List.{List, [], _∷_, _++_, map}
 use Prim.Native.Nat.{ℕ, _+_, _-_, _≤_, min}
@@ -27,18 +28,6 @@ head-six kind vs = refl
 some : (m : tie.After-smaller-of) → let a = m .before .before .before .before .args in m .smaller-of .result ≡ min (length (a .out .now)) (6 - a .j)
 some m = let a = m .before .before .before .before .args in m .smaller-of .ensures ∙ ap (min (length (a .out .now))) (m .before .minus-or-zero .ensures)
 
-minus-or-zero-requires : tie.Need-minus-or-zero-requires
-minus-or-zero-requires c κs = search needs
-
-smaller-of-requires : tie.Need-smaller-of-requires
-smaller-of-requires c κs = search needs
-
-smaller-of-requires-2 : tie.Need-smaller-of-requires-2
-smaller-of-requires-2 c κs = search needs
-
-slice-relend-prefix-lay-head : tie.Need-slice-relend-prefix-lay-head
-slice-relend-prefix-lay-head c = search needs
-
 slice-aggregate-lay-head : tie.Need-slice-aggregate-lay-head
 slice-aggregate-lay-head c =
     let m = c .before .before in
@@ -52,21 +41,6 @@ lay-head-requires c κs =
     let a = m .before .before .before .before .args in
     front-in (a .j) 6 (q .smaller-of2 .result) (m .smaller-of .result) (a .out .now) (some m) (q .smaller-of2 .ensures)
 
-minus-or-zero-requires-2 : tie.Need-minus-or-zero-requires-2
-minus-or-zero-requires-2 c κs = search needs
-
-mul-lay-rest : tie.Need-mul-lay-rest
-mul-lay-rest c = search needs
-
-sub-lay-rest : tie.Need-sub-lay-rest
-sub-lay-rest c = search needs
-
-part-lay-rest-start : tie.Need-part-lay-rest-start
-part-lay-rest-start c = search needs
-
-part-lay-rest-end : tie.Need-part-lay-rest-end
-part-lay-rest-end c = search needs
-
 lay-rest-requires : tie.Need-lay-rest-requires
 lay-rest-requires c κs =
     let p = c .before .before .before .before in
@@ -79,9 +53,6 @@ lay-rest-requires c κs =
     let is = front-is (a .j) 6 _ k (head (a .kind) v) (a .out .now) _ (some m) (q .smaller-of2 .ensures) (p .lay-head .ensures) in
     let all : a .j + length (a .out .now) ≤ 6 + (length v + 1) = omega (arith, s .pre) in
     second-in (a .j) 6 k (head (a .kind) v) (rest (a .mode) v) (a .out .now) _ (head-six (a .kind) v) (some m) is _ _ (c .before .minus-or-zero2 .ensures) all
-
-same-length : tie.Need-same-length
-same-length c = search needs
 
 returns : tie.Need-returns
 unfolding blockWords countWords
@@ -98,19 +69,10 @@ returns c =
 
 pub lay-words-spec : {M : Type 1} → statement M
 lay-words-spec =
-    tie.close
-    (tie.spec
-    minus-or-zero-requires
-    smaller-of-requires
-    smaller-of-requires-2
-    slice-relend-prefix-lay-head
-    slice-aggregate-lay-head
-    lay-head-requires
-    minus-or-zero-requires-2
-    mul-lay-rest
-    sub-lay-rest
-    part-lay-rest-start
-    part-lay-rest-end
-    lay-rest-requires
-    same-length
-    returns)
+    tie.close (tie.spec
+    (need tie.Need-minus-or-zero-requires (λ c κs. search needs)) (need tie.Need-smaller-of-requires (λ c κs. search needs))
+    (need tie.Need-smaller-of-requires-2 (λ c κs. search needs)) (need tie.Need-slice-relend-prefix-lay-head (λ c. search needs))
+    slice-aggregate-lay-head lay-head-requires (need tie.Need-minus-or-zero-requires-2 (λ c κs. search needs))
+    (need tie.Need-mul-lay-rest (λ c. search needs)) (need tie.Need-sub-lay-rest (λ c. search needs))
+    (need tie.Need-part-lay-rest-start (λ c. search needs)) (need tie.Need-part-lay-rest-end (λ c. search needs)) lay-rest-requires
+    (need tie.Need-same-length (λ c. search needs)) returns)

@@ -1,4 +1,5 @@
 -- `writer::closing::close_fault` meets its contract. Assumes nothing.
+use Rattle.lists.proofs.Needs.{need}
 use mathlib.Core.Path.{ap, ap₂, _∙_}
 use Prim.Native.Nat.{ℕ}
 use mathlib.Core.Bool.{Bool, _&&_, _||_, not}
@@ -8,33 +9,6 @@ use Rattle.writer.specs.Closing.{closeFaults, closeFault}
 use borrow.Author.Needs.{needs}
 use Rattle.writer.proofs.closing.close_fault.Statement.{statement}
 use Rattle.writer.proofs.closing.close_fault.Tie as tie
-
-is-part-requires : tie.Need-is-part-requires
-is-part-requires c κs = search needs
-
-end-in-requires : tie.Need-end-in-requires
-end-in-requires c κs = search needs
-
-is-full-requires : tie.Need-is-full-requires
-is-full-requires c κs = search needs
-
-is-at-requires : tie.Need-is-at-requires
-is-at-requires c κs = search needs
-
-or-else-requires : tie.Need-or-else-requires
-or-else-requires c κs = search needs
-
-is-impossible-requires : tie.Need-is-impossible-requires
-is-impossible-requires c κs = search needs
-
-or-else-requires-2 : tie.Need-or-else-requires-2
-or-else-requires-2 c κs = search needs
-
-is-fit-requires : tie.Need-is-fit-requires
-is-fit-requires c κs = search needs
-
-or-else-requires-3 : tie.Need-or-else-requires-3
-or-else-requires-3 c κs = search needs
 
 returns : tie.Need-returns
 unfolding closeFault
@@ -50,15 +24,9 @@ returns c =
 
 pub close-fault-spec : {M : Type 1} → statement M
 close-fault-spec =
-    tie.close
-    (tie.spec
-    is-part-requires
-    end-in-requires
-    is-full-requires
-    is-at-requires
-    or-else-requires
-    is-impossible-requires
-    or-else-requires-2
-    is-fit-requires
-    or-else-requires-3
-    returns)
+    tie.close (tie.spec
+    (need tie.Need-is-part-requires (λ c κs. search needs)) (need tie.Need-end-in-requires (λ c κs. search needs))
+    (need tie.Need-is-full-requires (λ c κs. search needs)) (need tie.Need-is-at-requires (λ c κs. search needs))
+    (need tie.Need-or-else-requires (λ c κs. search needs)) (need tie.Need-is-impossible-requires (λ c κs. search needs))
+    (need tie.Need-or-else-requires-2 (λ c κs. search needs)) (need tie.Need-is-fit-requires (λ c κs. search needs))
+    (need tie.Need-or-else-requires-3 (λ c κs. search needs)) returns)

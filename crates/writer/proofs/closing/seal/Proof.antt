@@ -1,4 +1,5 @@
 -- `writer::closing::seal` meets its contract. Assumes nothing.
+use Rattle.lists.proofs.Needs.{need}
 use mathlib.Core.Path.{refl}
 use native.Mathlib.Omega.{arith}
 use lib.ListN.{length-set}
@@ -7,53 +8,8 @@ use borrow.Author.Needs.{needs}
 use Rattle.writer.proofs.closing.seal.Statement.{statement}
 use Rattle.writer.proofs.closing.seal.Tie as tie
 
-sub-a : tie.Need-sub-a
-sub-a c = search needs
-
-sub-e : tie.Need-sub-e
-sub-e c = search needs
-
-mul-crc-of : tie.Need-mul-crc-of
-mul-crc-of c = search needs
-
-sub-crc-of : tie.Need-sub-crc-of
-sub-crc-of c = search needs
-
-part-crc-of-start : tie.Need-part-crc-of-start
-part-crc-of-start c = search needs
-
-part-crc-of-end : tie.Need-part-crc-of-end
-part-crc-of-end c = search needs
-
-crc-of-requires : tie.Need-crc-of-requires
-crc-of-requires c κs = search needs
-
-crc-words-requires : tie.Need-crc-words-requires
-crc-words-requires c κs = search needs
-
-array-read-line : tie.Need-array-read-line
-array-read-line c = search needs
-
-mul-line : tie.Need-mul-line
-mul-line c = search needs
-
-slice-write-line : tie.Need-slice-write-line
-slice-write-line c = search needs
-
-array-read-line-2 : tie.Need-array-read-line-2
-array-read-line-2 c = search needs
-
-add-line : tie.Need-add-line
-add-line c = search needs
-
-mul-line-2 : tie.Need-mul-line-2
-mul-line-2 c = search needs
-
 slice-write-line-2 : tie.Need-slice-write-line-2
 slice-write-line-2 c = let p = c .before .before .before .before .before .before .before .before .pre in simp length-set (omega (arith, p .0, p .1, p .2))
-
-same-length : tie.Need-same-length
-same-length c = search needs
 
 returns : tie.Need-returns
 returns c =
@@ -69,23 +25,11 @@ returns-2 c =
 
 pub seal-spec : {M : Type 1} → statement M
 seal-spec =
-    tie.close
-    (tie.spec
-    sub-a
-    sub-e
-    mul-crc-of
-    sub-crc-of
-    part-crc-of-start
-    part-crc-of-end
-    crc-of-requires
-    crc-words-requires
-    array-read-line
-    mul-line
-    slice-write-line
-    array-read-line-2
-    add-line
-    mul-line-2
-    slice-write-line-2
-    same-length
-    returns
-    returns-2)
+    tie.close (tie.spec
+    (need tie.Need-sub-a (λ c. search needs)) (need tie.Need-sub-e (λ c. search needs)) (need tie.Need-mul-crc-of (λ c. search needs))
+    (need tie.Need-sub-crc-of (λ c. search needs)) (need tie.Need-part-crc-of-start (λ c. search needs))
+    (need tie.Need-part-crc-of-end (λ c. search needs)) (need tie.Need-crc-of-requires (λ c κs. search needs))
+    (need tie.Need-crc-words-requires (λ c κs. search needs)) (need tie.Need-array-read-line (λ c. search needs))
+    (need tie.Need-mul-line (λ c. search needs)) (need tie.Need-slice-write-line (λ c. search needs))
+    (need tie.Need-array-read-line-2 (λ c. search needs)) (need tie.Need-add-line (λ c. search needs)) (need tie.Need-mul-line-2 (λ c. search needs))
+    slice-write-line-2 (need tie.Need-same-length (λ c. search needs)) returns returns-2)

@@ -1,4 +1,5 @@
 -- `writer::fill::put_bytes` meets its contract. Assumes nothing.
+use Rattle.lists.proofs.Needs.{need}
 use mathlib.Core.List.{map}
 use Prim.Native.Nat.{_-_}
 use native.Mathlib.Omega.{arith}
@@ -18,26 +19,8 @@ abbrev μ-loop : tie.MeasureT-loop
 loop-holds : tie.Need-loop-holds Inv-loop μ-loop
 loop-holds c = map-start byteWord (c .before .before .args .values .now) _ (c .before .before .pre)
 
-mul-byte-word : tie.Need-mul-byte-word Inv-loop μ-loop
-mul-byte-word c = search needs
-
-shared-slice-read-byte-word : tie.Need-shared-slice-read-byte-word Inv-loop μ-loop
-shared-slice-read-byte-word c = search needs
-
-byte-word-requires : tie.Need-byte-word-requires Inv-loop μ-loop
-byte-word-requires c κs = search needs
-
-mul-out : tie.Need-mul-out Inv-loop μ-loop
-mul-out c = search needs
-
 slice-write-out : tie.Need-slice-write-out Inv-loop μ-loop
 slice-write-out c = omega (arith, c .before .before .before .loop .inv .same, c .before .before .before .before .before .before .pre)
-
-add-i : tie.Need-add-i Inv-loop μ-loop
-add-i c = search needs
-
-loop-less : tie.Need-loop-less Inv-loop μ-loop
-loop-less c = search needs
 
 loop-again : tie.Need-loop-again Inv-loop μ-loop
 loop-again c = map-turn byteWord (c .before .before .before .before .before .before .args .values .now) _ _ _ _ (c .before .before .before .loop .inv) (c .before .before .loop-test .taken) (c .byte-word .ensures)
@@ -50,18 +33,9 @@ returns c = map-end byteWord (c .before .before .before .before .args .values .n
 
 pub put-bytes-spec : {M : Type 1} → statement M
 put-bytes-spec =
-    tie.close
-    (tie.spec
-    Inv-loop
-    μ-loop
-    loop-holds
-    mul-byte-word
-    shared-slice-read-byte-word
-    byte-word-requires
-    mul-out
-    slice-write-out
-    add-i
-    loop-less
-    loop-again
-    same-length
-    returns)
+    tie.close (tie.spec
+    Inv-loop μ-loop loop-holds (need (tie.Need-mul-byte-word Inv-loop μ-loop) (λ c. search needs))
+    (need (tie.Need-shared-slice-read-byte-word Inv-loop μ-loop) (λ c. search needs))
+    (need (tie.Need-byte-word-requires Inv-loop μ-loop) (λ c κs. search needs)) (need (tie.Need-mul-out Inv-loop μ-loop) (λ c. search needs))
+    slice-write-out (need (tie.Need-add-i Inv-loop μ-loop) (λ c. search needs)) (need (tie.Need-loop-less Inv-loop μ-loop) (λ c. search needs))
+    loop-again same-length returns)

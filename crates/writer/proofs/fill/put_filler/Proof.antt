@@ -1,4 +1,5 @@
 -- `writer::fill::put_filler` meets its contract. Assumes nothing.
+use Rattle.lists.proofs.Needs.{need}
 use mathlib.Core.Path.{sym}
 use Prim.Native.Nat.{ℕ, _-_, _<_}
 use native.Mathlib.Omega.{arith}
@@ -17,14 +18,8 @@ abbrev μ-loop : tie.MeasureT-loop
 loop-holds : tie.Need-loop-holds Inv-loop μ-loop
 loop-holds c = fill-start _ _ (sym (length-replicate (length (c .args .out .now)) 0x200))
 
-mul-out : tie.Need-mul-out Inv-loop μ-loop
-mul-out c = search needs
-
 slice-write-out : tie.Need-slice-write-out Inv-loop μ-loop
 slice-write-out c = c .loop-test .taken
-
-add-i : tie.Need-add-i Inv-loop μ-loop
-add-i c = search needs
 
 loop-less : tie.Need-loop-less Inv-loop μ-loop
 loop-less c = omega (arith, c .before .loop .inv .same, c .loop-test .taken)
@@ -43,15 +38,6 @@ returns c = fill-end _ _ _ _ (c .before .loop .inv) (omega (arith, c .before .lo
 
 pub put-filler-spec : {M : Type 1} → statement M
 put-filler-spec =
-    tie.close
-    (tie.spec
-    Inv-loop
-    μ-loop
-    loop-holds
-    mul-out
-    slice-write-out
-    add-i
-    loop-less
-    loop-again
-    same-length
-    returns)
+    tie.close (tie.spec
+    Inv-loop μ-loop loop-holds (need (tie.Need-mul-out Inv-loop μ-loop) (λ c. search needs)) slice-write-out
+    (need (tie.Need-add-i Inv-loop μ-loop) (λ c. search needs)) loop-less loop-again same-length returns)

@@ -1,4 +1,5 @@
 -- `writer::fill::put_gap` meets its contract. Assumes nothing.
+use Rattle.lists.proofs.Needs.{need}
 use mathlib.Core.Path.{sym, _∙_}
 use Prim.Native.Nat.{_-_, _<_}
 use native.Mathlib.Omega.{arith}
@@ -20,18 +21,6 @@ abbrev μ-loop : tie.MeasureT-loop
 loop-holds : tie.Need-loop-holds Inv-loop μ-loop
 loop-holds c = fill-start _ _ (sym (gap-length (c .before .args .index) (length (c .before .args .out .now))))
 
-gap-word-requires : tie.Need-gap-word-requires Inv-loop μ-loop
-gap-word-requires c κs = search needs
-
-mul-out : tie.Need-mul-out Inv-loop μ-loop
-mul-out c = search needs
-
-slice-write-out : tie.Need-slice-write-out Inv-loop μ-loop
-slice-write-out c = search needs
-
-add-i : tie.Need-add-i Inv-loop μ-loop
-add-i c = search needs
-
 loop-less : tie.Need-loop-less Inv-loop μ-loop
 loop-less c = omega (arith, c .before .before .loop .inv .same, c .before .loop-test .taken)
 
@@ -51,16 +40,7 @@ returns c = fill-end _ _ _ _ (c .before .loop .inv) (omega (arith, c .before .lo
 
 pub put-gap-spec : {M : Type 1} → statement M
 put-gap-spec =
-    tie.close
-    (tie.spec
-    Inv-loop
-    μ-loop
-    loop-holds
-    gap-word-requires
-    mul-out
-    slice-write-out
-    add-i
-    loop-less
-    loop-again
-    same-length
-    returns)
+    tie.close (tie.spec
+    Inv-loop μ-loop loop-holds (need (tie.Need-gap-word-requires Inv-loop μ-loop) (λ c κs. search needs))
+    (need (tie.Need-mul-out Inv-loop μ-loop) (λ c. search needs)) (need (tie.Need-slice-write-out Inv-loop μ-loop) (λ c. search needs))
+    (need (tie.Need-add-i Inv-loop μ-loop) (λ c. search needs)) loop-less loop-again same-length returns)

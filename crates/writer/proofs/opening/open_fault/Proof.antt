@@ -1,4 +1,5 @@
 -- `writer::opening::open_fault` meets its contract. Assumes nothing.
+use Rattle.lists.proofs.Needs.{need}
 use mathlib.Core.Path.{ap}
 use mathlib.Core.Bool.{_&&_, not}
 use lib.Dec.{leb}
@@ -11,36 +12,6 @@ use Rattle.writer.specs.Opening.{openFaults, openFault}
 use borrow.Author.Needs.{needs}
 use Rattle.writer.proofs.opening.open_fault.Statement.{statement}
 use Rattle.writer.proofs.opening.open_fault.Tie as tie
-
-system-of-requires : tie.Need-system-of-requires
-system-of-requires c κs = search needs
-
-settings-fault-requires : tie.Need-settings-fault-requires
-settings-fault-requires c κs = search needs
-
-is-blocked-requires : tie.Need-is-blocked-requires
-is-blocked-requires c κs = search needs
-
-or-else-requires : tie.Need-or-else-requires
-or-else-requires c κs = search needs
-
-or-next-requires : tie.Need-or-next-requires
-or-next-requires c κs = search needs
-
-or-else-requires-2 : tie.Need-or-else-requires-2
-or-else-requires-2 c κs = search needs
-
-is-impossible-requires : tie.Need-is-impossible-requires
-is-impossible-requires c κs = search needs
-
-or-else-requires-3 : tie.Need-or-else-requires-3
-or-else-requires-3 c κs = search needs
-
-is-fit-requires : tie.Need-is-fit-requires
-is-fit-requires c κs = search needs
-
-or-else-requires-4 : tie.Need-or-else-requires-4
-or-else-requires-4 c κs = search needs
 
 returns : tie.Need-returns
 unfolding openFault settingsFault
@@ -58,16 +29,9 @@ returns c =
 
 pub open-fault-spec : {M : Type 1} → statement M
 open-fault-spec =
-    tie.close
-    (tie.spec
-    system-of-requires
-    settings-fault-requires
-    is-blocked-requires
-    or-else-requires
-    or-next-requires
-    or-else-requires-2
-    is-impossible-requires
-    or-else-requires-3
-    is-fit-requires
-    or-else-requires-4
-    returns)
+    tie.close (tie.spec
+    (need tie.Need-system-of-requires (λ c κs. search needs)) (need tie.Need-settings-fault-requires (λ c κs. search needs))
+    (need tie.Need-is-blocked-requires (λ c κs. search needs)) (need tie.Need-or-else-requires (λ c κs. search needs))
+    (need tie.Need-or-next-requires (λ c κs. search needs)) (need tie.Need-or-else-requires-2 (λ c κs. search needs))
+    (need tie.Need-is-impossible-requires (λ c κs. search needs)) (need tie.Need-or-else-requires-3 (λ c κs. search needs))
+    (need tie.Need-is-fit-requires (λ c κs. search needs)) (need tie.Need-or-else-requires-4 (λ c κs. search needs)) returns)

@@ -1,4 +1,5 @@
 -- `writer::opening::put_from_gap` meets its contract. Assumes nothing.
+use Rattle.lists.proofs.Needs.{need}
 use mathlib.Core.Path.{sym, ap, _∙_}
 use mathlib.Core.Bool.{false}
 use mathlib.Core.List.{List, _++_}
@@ -14,34 +15,10 @@ use borrow.Author.Needs.{needs}
 use Rattle.writer.proofs.opening.put_from_gap.Statement.{statement}
 use Rattle.writer.proofs.opening.put_from_gap.Tie as tie
 
-slice-relend-prefix-put-gap : tie.Need-slice-relend-prefix-put-gap
-slice-relend-prefix-put-gap c = search needs
-
 slice-aggregate-put-gap : tie.Need-slice-aggregate-put-gap
 slice-aggregate-put-gap c =
     let a = c .before .before .args in
     sym (length-take-le (a .gap) (a .out .now) (omega (arith, c .before .before .pre)))
-
-put-gap-requires : tie.Need-put-gap-requires
-put-gap-requires c κs = search needs
-
-mul-put-payload : tie.Need-mul-put-payload
-mul-put-payload c = search needs
-
-sub-put-payload : tie.Need-sub-put-payload
-sub-put-payload c = search needs
-
-part-put-payload-start : tie.Need-part-put-payload-start
-part-put-payload-start c = search needs
-
-part-put-payload-end : tie.Need-part-put-payload-end
-part-put-payload-end c = search needs
-
-put-payload-requires : tie.Need-put-payload-requires
-put-payload-requires c κs = search needs
-
-same-length : tie.Need-same-length
-same-length c = search needs
 
 returns : tie.Need-returns
 returns c =
@@ -53,15 +30,8 @@ returns c =
 
 pub put-from-gap-spec : {M : Type 1} → statement M
 put-from-gap-spec =
-    tie.close
-    (tie.spec
-    slice-relend-prefix-put-gap
-    slice-aggregate-put-gap
-    put-gap-requires
-    mul-put-payload
-    sub-put-payload
-    part-put-payload-start
-    part-put-payload-end
-    put-payload-requires
-    same-length
-    returns)
+    tie.close (tie.spec
+    (need tie.Need-slice-relend-prefix-put-gap (λ c. search needs)) slice-aggregate-put-gap (need tie.Need-put-gap-requires (λ c κs. search needs))
+    (need tie.Need-mul-put-payload (λ c. search needs)) (need tie.Need-sub-put-payload (λ c. search needs))
+    (need tie.Need-part-put-payload-start (λ c. search needs)) (need tie.Need-part-put-payload-end (λ c. search needs))
+    (need tie.Need-put-payload-requires (λ c κs. search needs)) (need tie.Need-same-length (λ c. search needs)) returns)

@@ -1,4 +1,5 @@
 -- `writer::opening::put_from_header` meets its contract. Assumes nothing.
+use Rattle.lists.proofs.Needs.{need}
 use mathlib.Core.Path.{_≡_, sym, ap, _∙_}
 use mathlib.Core.Bool.{false}
 use mathlib.Core.List.{List, _++_}
@@ -14,15 +15,6 @@ use borrow.Author.Needs.{needs}
 use Rattle.writer.proofs.opening.put_from_header.Statement.{statement}
 use Rattle.writer.proofs.opening.put_from_header.Tie as tie
 
-header-words-requires : tie.Need-header-words-requires
-header-words-requires c κs = search needs
-
-slice-aggregate-copy-in : tie.Need-slice-aggregate-copy-in
-slice-aggregate-copy-in c = search needs
-
-slice-relend-prefix-copy-in : tie.Need-slice-relend-prefix-copy-in
-slice-relend-prefix-copy-in c = search needs
-
 slice-aggregate-copy-in-2 : tie.Need-slice-aggregate-copy-in-2
 slice-aggregate-copy-in-2 c = sym (length-take-le 53 (c .before .before .before .before .args .out .now) (omega (arith, c .before .before .before .before .pre)))
 
@@ -30,21 +22,6 @@ copy-in-requires : tie.Need-copy-in-requires
 copy-in-requires c κs =
     let header : length (c .before .before .header-words .result) ≡ 53 = search needs in
     length-take-le 53 (c .before .before .before .before .args .out .now) (omega (arith, c .before .before .before .before .pre)) ∙ sym header
-
-sub-put-from-gap : tie.Need-sub-put-from-gap
-sub-put-from-gap c = search needs
-
-part-put-from-gap-start : tie.Need-part-put-from-gap-start
-part-put-from-gap-start c = search needs
-
-part-put-from-gap-end : tie.Need-part-put-from-gap-end
-part-put-from-gap-end c = search needs
-
-put-from-gap-requires : tie.Need-put-from-gap-requires
-put-from-gap-requires c κs = search needs
-
-same-length : tie.Need-same-length
-same-length c = search needs
 
 returns : tie.Need-returns
 returns c =
@@ -58,16 +35,9 @@ returns c =
 
 pub put-from-header-spec : {M : Type 1} → statement M
 put-from-header-spec =
-    tie.close
-    (tie.spec
-    header-words-requires
-    slice-aggregate-copy-in
-    slice-relend-prefix-copy-in
-    slice-aggregate-copy-in-2
-    copy-in-requires
-    sub-put-from-gap
-    part-put-from-gap-start
-    part-put-from-gap-end
-    put-from-gap-requires
-    same-length
-    returns)
+    tie.close (tie.spec
+    (need tie.Need-header-words-requires (λ c κs. search needs)) (need tie.Need-slice-aggregate-copy-in (λ c. search needs))
+    (need tie.Need-slice-relend-prefix-copy-in (λ c. search needs)) slice-aggregate-copy-in-2 copy-in-requires
+    (need tie.Need-sub-put-from-gap (λ c. search needs)) (need tie.Need-part-put-from-gap-start (λ c. search needs))
+    (need tie.Need-part-put-from-gap-end (λ c. search needs)) (need tie.Need-put-from-gap-requires (λ c κs. search needs))
+    (need tie.Need-same-length (λ c. search needs)) returns)

@@ -1,4 +1,5 @@
 -- `writer::opening::put_line` meets its contract. Assumes nothing.
+use Rattle.lists.proofs.Needs.{need}
 use mathlib.Core.Path.{_≡_, refl, sym, ap, _∙_}
 use mathlib.Core.Bool.{true, false}
 use mathlib.Core.List.{List, _++_}
@@ -14,23 +15,11 @@ use borrow.Author.Needs.{needs}
 use Rattle.writer.proofs.opening.put_line.Statement.{statement}
 use Rattle.writer.proofs.opening.put_line.Tie as tie
 
-system-of-requires : tie.Need-system-of-requires
-system-of-requires c κs = search needs
-
 sub-gap : tie.Need-sub-gap
 sub-gap c = rw (c .before .system-of .ensures) (omega (arith, c .before .before .before .pre .0))
 
 sub-gap-2 : tie.Need-sub-gap-2
 sub-gap-2 c = rw (c .before .system-of .ensures) (omega (arith, c .before .before .before .pre .0))
-
-timing-words-requires : tie.Need-timing-words-requires
-timing-words-requires c κs = search needs
-
-slice-aggregate-copy-in : tie.Need-slice-aggregate-copy-in
-slice-aggregate-copy-in c = search needs
-
-slice-relend-prefix-copy-in : tie.Need-slice-relend-prefix-copy-in
-slice-relend-prefix-copy-in c = search needs
 
 slice-aggregate-copy-in-2 : tie.Need-slice-aggregate-copy-in-2
 slice-aggregate-copy-in-2 c =
@@ -43,15 +32,6 @@ copy-in-requires c κs =
     let eav : length (c .before .before .timing-words .result) ≡ 4 = search needs in
     length-take-le 4 (c .before .before .before .before .before .before .args .out .now) (omega (arith, room .0, room .1)) ∙ sym eav
 
-sub-put-from-header : tie.Need-sub-put-from-header
-sub-put-from-header c = search needs
-
-part-put-from-header-start : tie.Need-part-put-from-header-start
-part-put-from-header-start c = search needs
-
-part-put-from-header-end : tie.Need-part-put-from-header-end
-part-put-from-header-end c = search needs
-
 put-from-header-requires : tie.Need-put-from-header-requires
 unfolding timingWords
 put-from-header-requires c κs =
@@ -60,9 +40,6 @@ put-from-header-requires c κs =
     let room = c .before .before .before .before .before .before .before .before .before .before .pre in
     header-room (a .system) (row .result) (a .out .now) (c .before .before .before .copy-in .last .1 .0) (row .ensures) (room .0) (room .1)
     (ap length (c .before .before .before .copy-in .ensures ∙ c .before .before .before .before .before .before .timing-words .ensures))
-
-same-length : tie.Need-same-length
-same-length c = search needs
 
 returns : tie.Need-returns
 unfolding timingWords
@@ -79,19 +56,9 @@ returns c =
 
 pub put-line-spec : {M : Type 1} → statement M
 put-line-spec =
-    tie.close
-    (tie.spec
-    system-of-requires
-    sub-gap
-    sub-gap-2
-    timing-words-requires
-    slice-aggregate-copy-in
-    slice-relend-prefix-copy-in
-    slice-aggregate-copy-in-2
-    copy-in-requires
-    sub-put-from-header
-    part-put-from-header-start
-    part-put-from-header-end
-    put-from-header-requires
-    same-length
-    returns)
+    tie.close (tie.spec
+    (need tie.Need-system-of-requires (λ c κs. search needs)) sub-gap sub-gap-2 (need tie.Need-timing-words-requires (λ c κs. search needs))
+    (need tie.Need-slice-aggregate-copy-in (λ c. search needs)) (need tie.Need-slice-relend-prefix-copy-in (λ c. search needs))
+    slice-aggregate-copy-in-2 copy-in-requires (need tie.Need-sub-put-from-header (λ c. search needs))
+    (need tie.Need-part-put-from-header-start (λ c. search needs)) (need tie.Need-part-put-from-header-end (λ c. search needs))
+    put-from-header-requires (need tie.Need-same-length (λ c. search needs)) returns)

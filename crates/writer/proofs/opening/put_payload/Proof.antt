@@ -1,4 +1,5 @@
 -- `writer::opening::put_payload` meets its contract. Assumes nothing.
+use Rattle.lists.proofs.Needs.{need}
 use mathlib.Core.Path.{_≡_, refl, sym, _∙_}
 use mathlib.Core.Bool.{false}
 use Prim.Native.Nat.{ℕ}
@@ -10,15 +11,6 @@ use borrow.Author.Needs.{needs}
 use Rattle.writer.proofs.opening.put_payload.Statement.{statement}
 use Rattle.writer.proofs.opening.put_payload.Tie as tie
 
-timing-words-requires : tie.Need-timing-words-requires
-timing-words-requires c κs = search needs
-
-slice-aggregate-copy-in : tie.Need-slice-aggregate-copy-in
-slice-aggregate-copy-in c = search needs
-
-slice-relend-prefix-copy-in : tie.Need-slice-relend-prefix-copy-in
-slice-relend-prefix-copy-in c = search needs
-
 slice-aggregate-copy-in-2 : tie.Need-slice-aggregate-copy-in-2
 slice-aggregate-copy-in-2 c = sym (length-take-le 4 (c .before .before .before .before .args .out .now) (c .before .before .before .before .pre))
 
@@ -26,21 +18,6 @@ copy-in-requires : tie.Need-copy-in-requires
 copy-in-requires c κs =
     let sav : length (c .before .before .timing-words .result) ≡ 4 = search needs in
     length-take-le 4 (c .before .before .before .before .args .out .now) (c .before .before .before .before .pre) ∙ sym sav
-
-sub-put-filler : tie.Need-sub-put-filler
-sub-put-filler c = search needs
-
-part-put-filler-start : tie.Need-part-put-filler-start
-part-put-filler-start c = search needs
-
-part-put-filler-end : tie.Need-part-put-filler-end
-part-put-filler-end c = search needs
-
-put-filler-requires : tie.Need-put-filler-requires
-put-filler-requires c κs = search needs
-
-same-length : tie.Need-same-length
-same-length c = search needs
 
 returns : tie.Need-returns
 unfolding timingWords
@@ -51,16 +28,9 @@ returns c =
 
 pub put-payload-spec : {M : Type 1} → statement M
 put-payload-spec =
-    tie.close
-    (tie.spec
-    timing-words-requires
-    slice-aggregate-copy-in
-    slice-relend-prefix-copy-in
-    slice-aggregate-copy-in-2
-    copy-in-requires
-    sub-put-filler
-    part-put-filler-start
-    part-put-filler-end
-    put-filler-requires
-    same-length
-    returns)
+    tie.close (tie.spec
+    (need tie.Need-timing-words-requires (λ c κs. search needs)) (need tie.Need-slice-aggregate-copy-in (λ c. search needs))
+    (need tie.Need-slice-relend-prefix-copy-in (λ c. search needs)) slice-aggregate-copy-in-2 copy-in-requires
+    (need tie.Need-sub-put-filler (λ c. search needs)) (need tie.Need-part-put-filler-start (λ c. search needs))
+    (need tie.Need-part-put-filler-end (λ c. search needs)) (need tie.Need-put-filler-requires (λ c κs. search needs))
+    (need tie.Need-same-length (λ c. search needs)) returns)
