@@ -16,9 +16,9 @@ use Rattle.writer.specs.declared.state.Rest.the-variants.{NoBlock, Part}
 use Rattle.writer.specs.declared.state.Laid.the-variants.{Finished, Unfinished}
 use Rattle.writer.specs.State.{most, isPart, laidOf}
 use Rattle.writer.specs.Answers.{Added}
-use Rattle.writer.specs.Adding.{addFault, room, adding}
+use Rattle.writer.specs.Adding.{addFault, fitting, adding}
 use Rattle.writer.specs.Block.{fixedWords}
-use Rattle.writer.specs.Course.{joined, pieceOf}
+use Rattle.writer.specs.Filling.{joined, pieceOf}
 use Rattle.writer.proofs.Keeps.{add-leaves}
 use Rattle.demands.specs.Sending.{Block, Piece, Complete, Desk, valuesNow, pieceNow, completeNow, addedBy}
 use Rattle.demands.specs.Hearing.{Heard, is-block}

@@ -18,7 +18,7 @@ use Rattle.writer.specs.Answers.{Left, Added}
 use Rattle.writer.specs.Opening.{opening}
 use Rattle.writer.specs.Adding.{adding}
 use Rattle.writer.specs.Closing.{closing}
-use Rattle.writer.specs.Course.{asLaid}
+use Rattle.writer.specs.Filling.{asLaid}
 use Rattle.writer.proofs.Pieces.{finished-clear}
 use Rattle.demands.specs.Sending.{Call, opens, adds, closes, Complete, Sent, Desk, start, valuesNow, pieceNow, openedBy, addedBy, closedBy, sendsBy, after, sends, sentBy, sentFresh, blocksOf}
 use Rattle.demands.specs.Lent.{Unchanged, finishedBy, openedWith, closedWith, lentBy, lentFresh}

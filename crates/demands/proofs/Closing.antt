@@ -24,8 +24,8 @@ use Rattle.writer.specs.declared.state.Rest.the-variants.{NoBlock, Part}
 use Rattle.writer.specs.declared.state.Writer.{Writer}
 use Rattle.writer.specs.State.{most, isPart, laidOf, misshapen, impossible, endIn}
 use Rattle.writer.specs.Answers.{Left, Added}
-use Rattle.writer.specs.Adding.{valued, illShaped, isFull, isOther, addFault, todo, room, adding}
-use Rattle.writer.specs.Course.{pieceOf, filled, adds}
+use Rattle.writer.specs.Adding.{valued, illShaped, isFull, isOther, addFault, todo, fitting, adding}
+use Rattle.writer.specs.Filling.{pieceOf, filled, adds}
 use Rattle.writer.proofs.Keeps.{add-leaves, close-leaves}
 use Rattle.writer.proofs.Legal.{each-filler}
 use Rattle.writer.proofs.Refusals.{Begun, begun, can-add}
@@ -95,7 +95,7 @@ module _ (w : Writer) (line : List ℕ) (fit : fitsLength (w .system) (w .mode) 
     clear = adds-clear w (length line) kind vs fit possible (zeros-fit (w .mode) n) shape space at same
 
     abbrev k : ℕ
-    k = room w (todo w kind vs)
+    k = fitting w (todo w kind vs)
 
     abbrev x : Added
     x = adding w line kind vs

@@ -38,7 +38,7 @@ use Rattle.reader.specs.declared.state.Reader.{Reader}
 use Rattle.reader.specs.declared.state.Event.the-variants.{Refused}
 use Rattle.reader.specs.State.{capacity}
 use Rattle.reader.specs.Events.{yesNo, eventNumbers}
-use Rattle.reader.specs.Reading.{Call, call, refused, begun, toldBy, walkFrom, readFaultsIn, readFaultIn, readFault, readFrom, reading}
+use Rattle.reader.specs.Reading.{Reply, reply, refused, begun, toldBy, walkFrom, readFaultsIn, readFaultIn, readFault, readFrom, reading}
 use Rattle.reader.proofs.Ready.{read-rising}
 use Rattle.reader.proofs.ReadLaws.{read-refused}
 use Rattle.reader.proofs.AtCapacity.{ready, by-place, accepts, refuses}
@@ -191,8 +191,8 @@ add-left w line kind vs k e =
 
 -- ---- reading: what a call does, by the lowest number whose condition holds
 data Outcome (st : Reader) (line room : List ℕ) (n : ℕ) : Type 0 where
-  is-early : 1 ≤ n → n ≤ 2 → reading st line room ≡ call (record { event = Refused n false; state = st }) room → Outcome st line room n
-  is-late : 3 ≤ n → reading st line room ≡ call (refused st n) room → Outcome st line room n
+  is-early : 1 ≤ n → n ≤ 2 → reading st line room ≡ reply (record { event = Refused n false; state = st }) room → Outcome st line room n
+  is-late : 3 ≤ n → reading st line room ≡ reply (refused st n) room → Outcome st line room n
   is-served : n ≡ 0 → ReadServed st line room → Outcome st line room n
 
 -- 1 or 2
@@ -229,7 +229,7 @@ module _ (st : Reader) (line room : List ℕ) where
   shut-does fit at zero is =
       is-served refl
       (subst (λ (p : Place). ServedWith p (getD (eventNumbers (reading st line room .told .event)) 0 (pos 0))) (sym at)
-      (ap (λ (x : Call). getD (eventNumbers (x .told .event)) 0 (pos 0)) (accepts st line room fit at is) ∙ begun-by st _ _))
+      (ap (λ (x : Reply). getD (eventNumbers (x .told .event)) 0 (pos 0)) (accepts st line room fit at is) ∙ begun-by st _ _))
   shut-does fit at (suc n) is =
       is-late (subst (λ (k : ℕ). 3 ≤ k) is (from-three (st .system) (st .mode) line (ready st line room fit .fit) (λ z. omega (arith, is, z))))
       (refuses st line room fit at (suc n) is (λ z. omega arith))
@@ -239,7 +239,7 @@ module _ (st : Reader) (line room : List ℕ) where
   place-does fit (At q) at =
       is-served refl
       (subst (λ (p : Place). ServedWith p (getD (eventNumbers (reading st line room .told .event)) 0 (pos 0))) (sym at)
-      (subst (λ (x : Call). ServedWith (At q) (getD (eventNumbers (x .told .event)) 0 (pos 0))) (sym (by-place st line room (At q) fit at))
+      (subst (λ (x : Reply). ServedWith (At q) (getD (eventNumbers (x .told .event)) 0 (pos 0))) (sym (by-place st line room (At q) fit at))
       (later-by st _ _ (walkFrom st q line room .answer .met) q)))
 
   does-by : (r : ℕ) → readFault st (length line) (length room) ≡ r → Outcome st line room (orNext r (lowestOf (whereShut (st .place) (faults (systemOf (st .system)) (st .mode) line))))
@@ -251,8 +251,8 @@ module _ (st : Reader) (line room : List ℕ) where
   does = subst (Outcome st line room) (sym number-is) (does-by (readFault st (length line) (length room)) refl)
 
   -- ---- what it reports
-  reports : (x : Call) → reading st line room ≡ x → eventNumbers (reading st line room .told .event) ≡ eventNumbers (x .told .event)
-  reports x e = ap (λ (y : Call). eventNumbers (y .told .event)) e
+  reports : (x : Reply) → reading st line room ≡ x → eventNumbers (reading st line room .told .event) ≡ eventNumbers (x .told .event)
+  reports x e = ap (λ (y : Reply). eventNumbers (y .told .event)) e
 
   gives : (n k : ℕ) → Outcome st line room n → n ≡ k → 1 ≤ k → ReadRefused st line room k
   gives n k (is-early one two e) is h =
@@ -309,14 +309,14 @@ module _ (st : Reader) (line room : List ℕ) where
 
   -- ---- what a refusal leaves
   leaves : (n k : ℕ) → Outcome st line room n → ReadRefused st line room k → k ≤ 2 → (reading st line room .told .state ≡ st) × (reading st line room .room ≡ room)
-  leaves n k (is-early one two e) g h = (ap (λ (x : Call). x .told .state) e, ap (λ (x : Call). x .room) e)
+  leaves n k (is-early one two e) g h = (ap (λ (x : Reply). x .told .state) e, ap (λ (x : Reply). x .room) e)
   leaves n k (is-late three e) g h = absurd (omega (arith, three, h, only n k (is-late three e) g .0))
   leaves n k (is-served z s) g h = absurd (omega (arith, z, only n k (is-served z s) g .0, only n k (is-served z s) g .1))
 
   forgets : (n k : ℕ) → Outcome st line room n → ReadRefused st line room k → 3 ≤ k → Forgets st (reading st line room .told .state) × (reading st line room .room ≡ room)
   forgets n k (is-early one two e) g h = absurd (omega (arith, two, h, only n k (is-early one two e) g .0))
   forgets n k (is-late three e) g h =
-      (subst (λ (x : Call). Forgets st (x .told .state)) (sym e) (record { idle = refl; none-last = refl; kept = refl; none-begun = refl; same-system = refl; same-mode = refl }), ap (λ (x : Call). x .room) e)
+      (subst (λ (x : Reply). Forgets st (x .told .state)) (sym e) (record { idle = refl; none-last = refl; kept = refl; none-begun = refl; same-system = refl; same-mode = refl }), ap (λ (x : Reply). x .room) e)
   forgets n k (is-served z s) g h = absurd (omega (arith, z, only n k (is-served z s) g .0, only n k (is-served z s) g .1))
 
 pub demand-1 : Demand1

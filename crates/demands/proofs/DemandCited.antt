@@ -37,7 +37,7 @@ use Rattle.writer.specs.Block.{wordsIn}
 use Rattle.writer.specs.Opening.{opening}
 use Rattle.writer.specs.Adding.{addFault}
 use Rattle.writer.specs.Closing.{closing}
-use Rattle.writer.specs.Course.{Written, areaFrom, pieceOf, joined, asLaid}
+use Rattle.writer.specs.Filling.{Written, areaFrom, pieceOf, joined, asLaid}
 use Rattle.writer.proofs.Keeps.{open-clear, open-leaves}
 use Rattle.writer.proofs.Refusals.{can-open}
 use Rattle.writer.proofs.Stays.{open-possible}
@@ -47,7 +47,7 @@ use Rattle.reader.specs.declared.state.Reader.{Reader}
 use Rattle.reader.specs.declared.state.Event.the-variants.{Refused, Begun}
 use Rattle.reader.specs.State.{fresh}
 use Rattle.reader.specs.Jump.{jumpFrom}
-use Rattle.reader.specs.Reading.{Call as Answered, goesOn, begun, readFault, reading}
+use Rattle.reader.specs.Reading.{Reply as Answered, goesOn, begun, readFault, reading}
 use Rattle.reader.specs.Lending.{isBegun}
 use Rattle.demands.specs.All.{All}
 use Rattle.demands.specs.Sending.{Call, Block, Piece, Complete, Sent, Desk, start, sentFresh, blocksOf, joinedPieces}

@@ -29,7 +29,7 @@ use Rattle.writer.specs.Answers.{answerNumbers, laidNumbers}
 use Rattle.writer.specs.Opening.{openBlocked, openFault, openWords, opening}
 use Rattle.writer.specs.Adding.{valued, illShaped, addFault, adding}
 use Rattle.writer.specs.Closing.{closeFault, sealed, closing}
-use Rattle.writer.specs.Course.{pieceOf}
+use Rattle.writer.specs.Filling.{pieceOf}
 use Rattle.reader.specs.declared.jump.Jump.the-variants.{Unknown as NotKnown, Known}
 use Rattle.reader.specs.State.{capacity, fresh}
 use Rattle.reader.specs.Jump.{folded}

@@ -13,8 +13,8 @@ use Rattle.writer.specs.declared.state.Rest.the-variants.{NoBlock, Part}
 use Rattle.writer.specs.declared.state.Laid.the-variants.{Finished, Unfinished}
 use Rattle.writer.specs.State.{isPart, laidOf}
 use Rattle.writer.specs.Answers.{Added}
-use Rattle.writer.specs.Adding.{addFault, todo, room, lay, adding}
-use Rattle.writer.specs.Course.{pieceOf, joined}
+use Rattle.writer.specs.Adding.{addFault, todo, fitting, lay, adding}
+use Rattle.writer.specs.Filling.{pieceOf, joined}
 use Rattle.writer.proofs.BlockLaws.{fixed-long}
 use Rattle.writer.proofs.Keeps.{add-leaves}
 use Rattle.writer.proofs.Stays.{add-possible}
@@ -38,7 +38,7 @@ valuesOf (Part k n j) = n
 -- ---- what is owed, from any state and whatever words the line has
 module _ (mode : ℕ) (d : Desk) (kind : ℕ) (vs : List ℕ) (ow : Owes mode d) (clear : addFault (d .writer) (length (d .now .words)) kind vs ≡ 0) where
   abbrev k : ℕ
-  k = room (d .writer) (todo (d .writer) kind vs)
+  k = fitting (d .writer) (todo (d .writer) kind vs)
 
   pub leaves : adding (d .writer) (d .now .words) kind vs ≡ lay (d .writer) (d .now .words) kind vs
   leaves = add-leaves (d .writer) (d .now .words) kind vs clear

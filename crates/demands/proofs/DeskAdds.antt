@@ -21,8 +21,8 @@ use Rattle.writer.specs.declared.state.Rest.the-variants.{NoBlock, Part}
 use Rattle.writer.specs.declared.state.Laid.the-variants.{Finished, Unfinished}
 use Rattle.writer.specs.State.{most, laidOf}
 use Rattle.writer.specs.Block.{blockWords, fixedWords, wordsIn}
-use Rattle.writer.specs.Adding.{valued, illShaped, isOther, addFault, todo, room, adding}
-use Rattle.writer.specs.Course.{pieceOf, asLaid}
+use Rattle.writer.specs.Adding.{valued, illShaped, isOther, addFault, todo, fitting, adding}
+use Rattle.writer.specs.Filling.{pieceOf, asLaid}
 use Rattle.writer.proofs.BlockLaws.{words-variable, words-fixed, block-long, count, count-variable, words-long}
 use Rattle.writer.proofs.Legal.{each-take, each-drop}
 use Rattle.writer.proofs.Refusals.{CanAdd, can-add}
@@ -80,7 +80,7 @@ module _ (mode : ℕ) (d : Desk) (kind : ℕ) (vs : List ℕ) (ow : Owes mode d)
     (clear : addFault (d .writer) (length (d .now .words)) kind vs ≡ 0) where
   -- how many words are laid now
   abbrev k : ℕ
-  k = room (d .writer) (todo (d .writer) kind vs)
+  k = fitting (d .writer) (todo (d .writer) kind vs)
 
   pub finds : CanAdd (d .writer) (d .now .words) kind vs
   finds = can-add (d .writer) (d .now .words) kind vs clear
@@ -96,15 +96,15 @@ module _ (mode : ℕ) (d : Desk) (kind : ℕ) (vs : List ℕ) (ow : Owes mode d)
       length-drop (laidOf (d .writer .rest)) (wordsIn (d .writer .settings .block) (d .writer .mode) kind vs)
       ∙ ap (λ (x : ℕ). x - laidOf (d .writer .rest)) (words-long (d .writer .settings .block) (d .writer .mode) kind vs)
 
-  some-laid : 1 ≤ room (d .writer) (todo (d .writer) kind vs)
+  some-laid : 1 ≤ fitting (d .writer) (todo (d .writer) kind vs)
   some-laid = omega (arith, todo-long, finds .room, finds .left)
 
   -- finished: all that was left
-  pub all-now : adding (d .writer) (d .now .words) kind vs .answer ≡ Finished → room (d .writer) (todo (d .writer) kind vs) ≡ length (todo (d .writer) kind vs)
+  pub all-now : adding (d .writer) (d .now .words) kind vs .answer ≡ Finished → fitting (d .writer) (todo (d .writer) kind vs) ≡ length (todo (d .writer) kind vs)
   all-now e =
       let ws = todo (d .writer) kind vs in
       let same = ap length (sym (piece-laid (d .writer) (d .now .words) kind vs clear) ∙ all-laid (d .writer) (d .now .words) kind vs clear e) in
-      omega (arith, same, length-take (room (d .writer) ws) ws)
+      omega (arith, same, length-take (fitting (d .writer) ws) ws)
 
   -- ---- a variable line
   module _ (v : isVariable (d .writer .settings .block) ≡ true) where
@@ -195,7 +195,7 @@ module _ (system mode : ℕ) (d : Desk) (kind : ℕ) (vs : List ℕ) (ok : DeskO
         at-most = omega (arith, lent .long, can .number);
         length-is = lent .long;
         values-fit = lent .fits;
-        k = room (d .writer) (todo (d .writer) kind vs);
+        k = fitting (d .writer) (todo (d .writer) kind vs);
         some = some-laid mode d kind vs (ok .owes) clear;
         before = lent .before;
         piece = piece-now mode d kind vs (ok .owes) clear v;

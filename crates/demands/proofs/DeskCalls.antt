@@ -25,7 +25,7 @@ use Rattle.writer.specs.Answers.{laidNumbers, Added}
 use Rattle.writer.specs.Opening.{opening}
 use Rattle.writer.specs.Adding.{addFault, adding}
 use Rattle.writer.specs.Closing.{closing}
-use Rattle.writer.specs.Course.{joined}
+use Rattle.writer.specs.Filling.{joined}
 use Rattle.writer.proofs.Keeps.{open-keeps, close-keeps, add-stays, add-leaves}
 use Rattle.demands.specs.Sending.{opens, adds, closes, Piece, Complete, Sent, Desk, openedBy, with, pieceNow, addedBy, closedBy, after, joinedPieces}
 use Rattle.demands.proofs.DeskOk.{Owes, DeskOk}

@@ -25,7 +25,7 @@ use Rattle.writer.specs.State.{isPart, endIn, moved}
 use Rattle.writer.specs.Answers.{Left, left}
 use Rattle.writer.specs.Adding.{isFull}
 use Rattle.writer.specs.Closing.{sealed, closing}
-use Rattle.writer.specs.Course.{joined}
+use Rattle.writer.specs.Filling.{joined}
 use Rattle.writer.proofs.Keeps.{close-clear, close-leaves}
 use Rattle.writer.proofs.Refusals.{Begun, begun, CanClose, can-close}
 use Rattle.writer.proofs.Stays.{close-possible}

@@ -17,7 +17,7 @@ use Rattle.writer.specs.State.{impossible}
 use Rattle.writer.specs.Opening.{opening}
 use Rattle.writer.specs.Adding.{addFault, adding}
 use Rattle.writer.specs.Closing.{closing}
-use Rattle.writer.specs.Course.{joined}
+use Rattle.writer.specs.Filling.{joined}
 use Rattle.writer.proofs.Pieces.{finished-clear, unfinished-clear}
 use Rattle.writer.proofs.Writing.{Open}
 use Rattle.demands.specs.Sending.{Call, opens, adds, closes, Sent, Desk, with, openedBy, addedBy, closedBy, sendsBy, after, sends}

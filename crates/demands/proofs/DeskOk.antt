@@ -17,7 +17,7 @@ use Rattle.writer.specs.declared.state.Rest.the-variants.{NoBlock, Part}
 use Rattle.writer.specs.State.{impossible}
 use Rattle.writer.specs.Adding.{valued}
 use Rattle.writer.specs.Block.{blockWords}
-use Rattle.writer.specs.Course.{joined}
+use Rattle.writer.specs.Filling.{joined}
 use Rattle.writer.proofs.Writing.{Open}
 use Rattle.demands.specs.All.{All}
 use Rattle.demands.specs.Sending.{Desk, joinedPieces}

@@ -22,7 +22,7 @@ use Rattle.course.proofs.CourseLaws.{end-in-area, start-placed, grid-some}
 use Rattle.writer.specs.declared.state.Answer.the-variants.{Done}
 use Rattle.writer.specs.State.{isPart}
 use Rattle.writer.specs.Closing.{closing}
-use Rattle.writer.specs.Course.{joined, areaFrom}
+use Rattle.writer.specs.Filling.{joined, areaFrom}
 use Rattle.machine.specs.declared.phase.Phase.{Phase}
 use Rattle.machine.specs.declared.phase.Phase.the-variants.{Idle}
 use Rattle.machine.specs.Places.{placesIn}

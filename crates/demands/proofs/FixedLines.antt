@@ -16,7 +16,7 @@ use Rattle.course.specs.Course.{isAt, blocksEnd}
 use Rattle.course.proofs.CourseLaws.{start-placed, grid-some}
 use Rattle.writer.specs.declared.state.Laid.{Laid}
 use Rattle.writer.specs.Answers.{Left, laidNumbers}
-use Rattle.writer.specs.Course.{joined}
+use Rattle.writer.specs.Filling.{joined}
 use Rattle.writer.proofs.Keeps.{close-clear, close-leaves}
 use Rattle.writer.proofs.Refusals.{can-add, can-close}
 use Rattle.demands.specs.All.{All}

@@ -35,10 +35,10 @@ use Rattle.writer.specs.State.{isPart, impossible, endIn, moved}
 use Rattle.writer.specs.Answers.{Left, Added}
 use Rattle.writer.specs.Block.{blockWords, wordsIn}
 use Rattle.writer.specs.Opening.{openBlocked, openFault, openWords}
-use Rattle.writer.specs.Adding.{valued, illShaped, isFull, isOther, addFault, todo, room, adding}
+use Rattle.writer.specs.Adding.{valued, illShaped, isFull, isOther, addFault, todo, fitting, adding}
 use Rattle.writer.specs.Closing.{closeFault, closing}
 use Rattle.writer.proofs.Refusals.{clear-open}
-use Rattle.writer.specs.Course.{pieceOf, joined, asLaid}
+use Rattle.writer.specs.Filling.{pieceOf, joined, asLaid}
 use Rattle.writer.proofs.Keeps.{open-leaves, add-leaves, close-leaves}
 use Rattle.writer.proofs.Framing.{front, front-length, framed-front}
 use Rattle.writer.proofs.BlockLaws.{words-variable, block-long}
@@ -229,10 +229,10 @@ module _ (n : ℕ) (ws : List ℕ) (i : ℕ) (vs : List ℕ) (v : Values vs) (ok
   head-free : addFault w (length ws) 1 vs ≡ 0
   head-free = add-free w (length ws) 1 vs (fits-by (length ws) (open-long fresh-line ok refl)) (ok .possible) (v .fit) (shape-is vs v) not-full refl
 
-  head-room : room w (todo w 1 vs) ≡ 1440
+  head-room : fitting w (todo w 1 vs) ≡ 1440
   head-room = ap₂ (λ (e l : ℕ). min (e - 0) l) area-is (words-are vs v)
 
-  head-more : eqb (room w (todo w 1 vs)) (length (todo w 1 vs)) ≡ false
+  head-more : eqb (fitting w (todo w 1 vs)) (length (todo w 1 vs)) ≡ false
   head-more = ap₂ eqb head-room (words-are vs v)
 
   head-leaves : adding w ws 1 vs .state ≡ writer (Number n) one-set (At 1440) (Part 1 1500 1440)
@@ -274,10 +274,10 @@ module _ (n : ℕ) (ws : List ℕ) (i : ℕ) (us vs : List ℕ) (ps : List Piece
   tail-long : length (todo w′ 1 vs) ≡ 67
   tail-long = length-drop 1440 (wordsIn 0xc1 8 1 vs) ∙ ap (λ (m : ℕ). m - 1440) (words-are vs v)
 
-  tail-room : room w′ (todo w′ 1 vs) ≡ 67
+  tail-room : fitting w′ (todo w′ 1 vs) ≡ 67
   tail-room = ap₂ (λ (e l : ℕ). min (e - 0) l) area-is tail-long
 
-  tail-all : eqb (room w′ (todo w′ 1 vs)) (length (todo w′ 1 vs)) ≡ true
+  tail-all : eqb (fitting w′ (todo w′ 1 vs)) (length (todo w′ 1 vs)) ≡ true
   tail-all = ap₂ eqb tail-room tail-long
 
   tail-leaves : adding w′ ws 1 vs .state ≡ writer (Number n) one-set (At 67) NoBlock

@@ -18,7 +18,7 @@ use Rattle.course.specs.declared.Place.the-variants.{Shut}
 use Rattle.course.specs.Course.{nextNumber}
 use Rattle.writer.specs.declared.state.Rest.the-variants.{NoBlock}
 use Rattle.writer.specs.Adding.{valued}
-use Rattle.writer.specs.Course.{asLaid}
+use Rattle.writer.specs.Filling.{asLaid}
 use Rattle.writer.proofs.Framing.{take-filler, drop-filler}
 use Rattle.writer.proofs.Legal.{each-filler}
 use Rattle.reader.specs.State.{capacity, fresh}

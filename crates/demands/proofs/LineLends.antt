@@ -28,7 +28,7 @@ use Rattle.reader.specs.declared.state.Event.the-variants.{Refused}
 use Rattle.machine.specs.Walk.{Walk, isNothing, walkOf}
 use Rattle.machine.specs.Places.{placesIn, walkPlaces}
 use Rattle.reader.specs.State.{impossible}
-use Rattle.reader.specs.Reading.{Call, call, becomes, goesOn, begun, wordsFrom, walkFrom, toldBy, readFault, reading, readingIn}
+use Rattle.reader.specs.Reading.{Reply, reply, becomes, goesOn, begun, wordsFrom, walkFrom, toldBy, readFault, reading, readingIn}
 use Rattle.reader.specs.Lending.{isLast}
 use Rattle.reader.proofs.AtCapacity.{Ready, ready, read-possible, by-place, accepts, refuses, unfaulted, call-moves}
 use Rattle.reader.proofs.ReadLaws.{grid}
@@ -204,13 +204,13 @@ pub record Rest (st : Reader) (q : ℕ) (line room : List ℕ) (hs : List Heard)
   pub state : st′ ≡ becomes st (st .last) (st .settings) Shut (restTo st q line room .phase)
   pub room-is : room′ ≡ restTo st q line room .room
 
-abbrev heardBy : Call → Heard
+abbrev heardBy : Reply → Heard
 heardBy z = heardOf (z .told .event) (z .told .state .settings) (z .room)
 
 module _ (st : Reader) (q : ℕ) (line room : List ℕ) (x : Walk) (g : Goes st q line room x) where
   -- the last call: nothing was met, so nothing is left
   last-step : (met : Met) → x .answer .met ≡ met → isLast (toldBy st (q + x .answer .taken) (x .answer .phase) met .event) ≡ true
-      → Rest st q line room (heardBy (call (toldBy st (q + x .answer .taken) (x .answer .phase) met) (x .room)) ∷ [])
+      → Rest st q line room (heardBy (reply (toldBy st (q + x .answer .taken) (x .answer .phase) met) (x .room)) ∷ [])
       (toldBy st (q + x .answer .taken) (x .answer .phase) met .state) (x .room)
   last-step Nothing e h =
       let z : isNothing (x .answer .met) ≡ true = ap isNothing e in
@@ -241,7 +241,7 @@ module _ (st : Reader) (q : ℕ) (line room : List ℕ) (x : Walk) (g : Goes st 
       → isLast (toldBy st (q + x .answer .taken) (x .answer .phase) met .event) ≡ false
       → ((i : ℕ) → toldBy st (q + x .answer .taken) (x .answer .phase) met .state .place ≡ At i
       → Rest (toldBy st (q + x .answer .taken) (x .answer .phase) met .state) i line (x .room) hs st′ room′)
-      → Rest st q line room (heardBy (call (toldBy st (q + x .answer .taken) (x .answer .phase) met) (x .room)) ∷ hs) st′ room′
+      → Rest st q line room (heardBy (reply (toldBy st (q + x .answer .taken) (x .answer .phase) met) (x .room)) ∷ hs) st′ room′
   more-step Nothing hs st′ room′ e h k = absurd (true-false h)
   more-step (Whole j n) hs st′ room′ e h k = more-by (Whole j n) hs st′ room′ e _ refl (k (q + x .answer .taken) refl)
   more-step (Lost n) hs st′ room′ e h k = more-by (Lost n) hs st′ room′ e _ refl (k (q + x .answer .taken) refl)
@@ -253,14 +253,14 @@ module _ (st : Reader) (q : ℕ) (line room : List ℕ) (fit : readFault st (len
   rest-last : isLast (reading st line room .told .event) ≡ true
       → Rest st q line room (hear st line room ∷ []) (reading st line room .told .state) (reading st line room .room)
   rest-last h =
-      subst (λ (z : Call). isLast (z .told .event) ≡ true → Rest st q line room (heardBy z ∷ []) (z .told .state) (z .room)) (sym (by-place st line room (At q) fit at))
+      subst (λ (z : Reply). isLast (z .told .event) ≡ true → Rest st q line room (heardBy z ∷ []) (z .told .state) (z .room)) (sym (by-place st line room (At q) fit at))
       (last-step st q line room walked (walk-goes st q line room at (ready st line room fit)) (walked .answer .met) refl) h
 
   rest-more : (hs : List Heard) (st′ : Reader) (room′ : List ℕ) → isLast (reading st line room .told .event) ≡ false
       → ((i : ℕ) → reading st line room .told .state .place ≡ At i → Rest (reading st line room .told .state) i line (reading st line room .room) hs st′ room′)
       → Rest st q line room (hear st line room ∷ hs) st′ room′
   rest-more hs st′ room′ h k =
-      subst (λ (z : Call). isLast (z .told .event) ≡ false → ((i : ℕ) → z .told .state .place ≡ At i → Rest (z .told .state) i line (z .room) hs st′ room′)
+      subst (λ (z : Reply). isLast (z .told .event) ≡ false → ((i : ℕ) → z .told .state .place ≡ At i → Rest (z .told .state) i line (z .room) hs st′ room′)
       → Rest st q line room (heardBy z ∷ hs) st′ room′) (sym (by-place st line room (At q) fit at))
       (more-step st q line room walked (walk-goes st q line room at (ready st line room fit)) (walked .answer .met) hs st′ room′ refl) h k
 
@@ -300,12 +300,12 @@ pub record Takes (st : Reader) (room : List ℕ) (i : Input) (hs : List Heard) (
 -- begun, and then the calls from the line's start to its end
 begun-hears : (st : Reader) (n : ℕ) (t : Settings) (line room : List ℕ) (hs : List Heard) (st′ : Reader) (room′ : List ℕ)
     → ((i : ℕ) → begun st n t .state .place ≡ At i → Rest (begun st n t .state) i line room hs st′ room′)
-    → Takes st room (own n t (blockPart (st .system) t line)) (heardBy (call (begun st n t) room) ∷ hs) st′ room′
+    → Takes st room (own n t (blockPart (st .system) t line)) (heardBy (reply (begun st n t) room) ∷ hs) st′ room′
 unfolding begun goesOn
 begun-hears st n t line room hs st′ room′ k =
     let f = k 0 refl in
     let first : Reader = begun st n t .state in
-    let told : Heard = heardBy (call (begun st n t) room) in
+    let told : Heard = heardBy (reply (begun st n t) room) in
     record {
       heard = ap {B = List Heard} (λ (l : List Heard). told ∷ l) (f .heard ∙ ap {B = List Heard} (λ (l : List Heard). l ++ (is-end ∷ [])) (rest-out first line room));
       state = f .state ∙ ap (λ (x : Now). becomes st (first .last) t Shut (x .phase)) (rest-to first line room);
@@ -317,7 +317,7 @@ unfolding begun
 begun-goes st n t = refl
 
 -- what a begun line's first call keeps
-begun-same : (st : Reader) (n : ℕ) (t : Settings) (room : List ℕ) → Same st room (call (begun st n t) room)
+begun-same : (st : Reader) (n : ℕ) (t : Settings) (room : List ℕ) → Same st room (reply (begun st n t) room)
 unfolding begun
 begun-same st n t room = record { system = refl; mode = refl; room-long = refl }
 
@@ -354,13 +354,13 @@ module _ (st : Reader) (line room : List ℕ) (fit : readFault st (length line) 
 
   accepted-last : isLast (reading st line room .told .event) ≡ true → ⊥
   accepted-last h =
-      true-false (sym h ∙ ap (λ (z : Call). isLast (z .told .event)) (accepts st line room fit at ok) ∙ begun-goes st number settings)
+      true-false (sym h ∙ ap (λ (z : Reply). isLast (z .told .event)) (accepts st line room fit at ok) ∙ begun-goes st number settings)
 
   accepted-more : (hs : List Heard) (st′ : Reader) (room′ : List ℕ)
       → ((i : ℕ) → reading st line room .told .state .place ≡ At i → Rest (reading st line room .told .state) i line (reading st line room .room) hs st′ room′)
       → Takes st room (own (numberOf line) (settingsOf line) (blockPart (st .system) (settingsOf line) line)) (hear st line room ∷ hs) st′ room′
   accepted-more hs st′ room′ k =
-      subst (λ (z : Call). ((i : ℕ) → z .told .state .place ≡ At i → Rest (z .told .state) i line (z .room) hs st′ room′)
+      subst (λ (z : Reply). ((i : ℕ) → z .told .state .place ≡ At i → Rest (z .told .state) i line (z .room) hs st′ room′)
       → Takes st room (own number settings (blockPart (st .system) settings line)) (heardBy z ∷ hs) st′ room′) (sym (accepts st line room fit at ok))
       (begun-hears st number settings line room hs st′ room′) k
 
@@ -375,17 +375,17 @@ hears st line room hs st′ room′ fit at ok (more {hs = ks} h k) =
 pub refuses-line : (st : Reader) (line room : List ℕ) (hs : List Heard) (st′ : Reader) (room′ : List ℕ) → readFault st (length line) (length room) ≡ 0 → st .place ≡ Shut
     → (k : ℕ) → lineFault (st .system) (st .mode) line ≡ k → (k ≡ 0 → ⊥) → Lends line st room hs st′ room′ → Takes st room (refusal k) hs st′ room′
 refuses-line st line room hs st′ room′ fit at k is bad (last h) =
-    subst (λ (z : Call). Takes st room (refusal k) (heardBy z ∷ []) (z .told .state) (z .room)) (sym (refuses st line room fit at k is bad))
+    subst (λ (z : Reply). Takes st room (refusal k) (heardBy z ∷ []) (z .told .state) (z .room)) (sym (refuses st line room fit at k is bad))
     (record { heard = refl; state = refl; room-is = refl })
 refuses-line st line room hs st′ room′ fit at k is bad (more h l) =
-    absurd (true-false (sym (ap (λ (z : Call). isLast (z .told .event)) (refuses st line room fit at k is bad)) ∙ h))
+    absurd (true-false (sym (ap (λ (z : Reply). isLast (z .told .event)) (refuses st line room fit at k is bad)) ∙ h))
 
 -- ---- refused with 1 or 2: at once, and everything is left
 faulted : (st : Reader) (line room : List ℕ) (k : ℕ) → readFault st (length line) (length room) ≡ suc k
-    → reading st line room ≡ call (record { event = Refused (suc k) false; state = st }) room
+    → reading st line room ≡ reply (record { event = Refused (suc k) false; state = st }) room
 unfolding readingIn
 faulted st line room k e =
-    pick-false _ _ (ap (λ (n : ℕ). eqb n 0) e ∙ eqb·suc-zero k) ∙ ap (λ (n : ℕ). call (record { event = Refused n false; state = st }) room) e
+    pick-false _ _ (ap (λ (n : ℕ). eqb n 0) e ∙ eqb·suc-zero k) ∙ ap (λ (n : ℕ). reply (record { event = Refused n false; state = st }) room) e
 
 pub record Leaves (st : Reader) (room : List ℕ) (k : ℕ) (hs : List Heard) (st′ : Reader) (room′ : List ℕ) : Type 0 where
   pub heard : hs ≡ is-refused k false ∷ []
@@ -395,9 +395,9 @@ pub record Leaves (st : Reader) (room : List ℕ) (k : ℕ) (hs : List Heard) (s
 pub leaves-line : (st : Reader) (line room : List ℕ) (hs : List Heard) (st′ : Reader) (room′ : List ℕ) (k : ℕ) → readFault st (length line) (length room) ≡ suc k
     → Lends line st room hs st′ room′ → Leaves st room (suc k) hs st′ room′
 leaves-line st line room hs st′ room′ k e (last h) =
-    subst (λ (z : Call). Leaves st room (suc k) (heardBy z ∷ []) (z .told .state) (z .room)) (sym (faulted st line room k e))
+    subst (λ (z : Reply). Leaves st room (suc k) (heardBy z ∷ []) (z .told .state) (z .room)) (sym (faulted st line room k e))
     (record { heard = refl; state = refl; room-is = refl })
-leaves-line st line room hs st′ room′ k e (more h l) = absurd (true-false (sym (ap (λ (z : Call). isLast (z .told .event)) (faulted st line room k e)) ∙ h))
+leaves-line st line room hs st′ room′ k e (more h l) = absurd (true-false (sym (ap (λ (z : Reply). isLast (z .told .event)) (faulted st line room k e)) ∙ h))
 
 -- ---- what the calls on a line keep
 pub record Keeps (st : Reader) (room : List ℕ) (st′ : Reader) (room′ : List ℕ) : Type 0 where

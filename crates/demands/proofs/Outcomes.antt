@@ -20,7 +20,7 @@ use Rattle.writer.specs.Opening.{isNext, opening}
 use Rattle.writer.specs.Adding.{valued, adding}
 use Rattle.writer.specs.Block.{blockWords, fixedWords, wordsIn}
 use Rattle.writer.specs.Closing.{closing}
-use Rattle.writer.specs.Course.{pieceOf, joined, areaFrom}
+use Rattle.writer.specs.Filling.{pieceOf, joined, areaFrom}
 use Rattle.demands.specs.Sending.{Desk, valuesNow, pieceNow, joinedPieces}
 
 -- opened: the state, and that an unfinished block goes on with the next number and the same settings

@@ -25,7 +25,7 @@ use Rattle.machine.proofs.Kept.{laid-long}
 use Rattle.machine.proofs.PlaceLaws.{met-whole}
 use Rattle.writer.specs.Block.{fixedWords}
 use Rattle.writer.specs.Adding.{valued}
-use Rattle.writer.specs.Course.{joined}
+use Rattle.writer.specs.Filling.{joined}
 use Rattle.writer.proofs.Legal.{byte-any}
 use Rattle.writer.proofs.Framing.{take-filler, drop-filler}
 use Rattle.demands.specs.Hearing.{Heard, is-block}

@@ -18,7 +18,7 @@ use Rattle.writer.specs.declared.state.Answer.the-variants.{Done}
 use Rattle.writer.specs.Answers.{Added}
 use Rattle.writer.specs.Adding.{addFault, adding}
 use Rattle.writer.specs.Closing.{closing}
-use Rattle.writer.specs.Course.{joined, areaFrom}
+use Rattle.writer.specs.Filling.{joined, areaFrom}
 use Rattle.writer.proofs.Keeps.{add-leaves, close-clear}
 use Rattle.writer.proofs.Refusals.{can-add, can-close}
 use Rattle.demands.specs.All.{All}

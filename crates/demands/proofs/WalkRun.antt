@@ -13,7 +13,7 @@ use Rattle.machine.specs.declared.phase.Phase.{Phase}
 use Rattle.machine.specs.declared.step.Met.{Met}
 use Rattle.machine.specs.declared.step.Met.the-variants.{Nothing, Whole, Lost}
 use Rattle.machine.specs.Machine.{stepOf}
-use Rattle.machine.specs.Walk.{Walk, after, past, unless, isNothing, collectedOf, stored, walkOf}
+use Rattle.machine.specs.Walk.{Walk, walkedTo, past, unless, isNothing, collectedOf, stored, walkOf}
 use Rattle.machine.specs.Places.{metAt, placeRoom, walkPlaces}
 use Rattle.demands.specs.Hearing.{Heard}
 use Rattle.demands.proofs.Run.{Now, now, metHeard, stepTo, stepOut, runTo, runOut, placeTo, placeOut, placesTo, placesOut}
@@ -32,7 +32,7 @@ pub record Runs (mode : ℕ) (p : Phase) (ws room : List ℕ) (x : Walk) : Type 
 -- after one word that leaves phase s and room r
 word-runs : (mode : ℕ) (p s : Phase) (w : ℕ) (ws room r : List ℕ) (met : Met) (on : Walk)
     → stepTo mode (now p room) w ≡ now s r → stepOut mode (now p room) w ≡ metHeard met r → Runs mode s ws r on
-    → Runs mode p (w ∷ ws) room (unless met (after s met 1 r) (past 1 on))
+    → Runs mode p (w ∷ ws) room (unless met (walkedTo s met 1 r) (past 1 on))
 word-runs mode p s w ws room r Nothing on e f h =
     let left = drop-one-more (on .answer .taken) w ws in
     record {
@@ -78,7 +78,7 @@ pub record Passes (mode : ℕ) (p : Phase) (xs : List (List ℕ)) (room : List �
 
 -- one place, of which something is reported
 one-passed : (mode : ℕ) (p : Phase) (x : List ℕ) (xs : List (List ℕ)) (room r : List ℕ) (met : Met) → isNothing met ≡ false → placeTo mode x room ≡ r
-    → placeOut mode x room ≡ metHeard met r → Passes mode p (x ∷ xs) room (after p met (length x) r)
+    → placeOut mode x room ≡ metHeard met r → Passes mode p (x ∷ xs) room (walkedTo p met (length x) r)
 one-passed mode p x xs room r met some e f =
     record {
       count = 1;
@@ -93,7 +93,7 @@ one-passed mode p x xs room r met some e f =
 -- after one place that leaves room r, the same room where nothing is met
 place-passes : (mode : ℕ) (p : Phase) (x : List ℕ) (xs : List (List ℕ)) (room r : List ℕ) (met : Met) (on : Walk)
     → placeTo mode x room ≡ r → placeOut mode x room ≡ metHeard met r → (met ≡ Nothing → r ≡ room) → Passes mode p xs room on
-    → Passes mode p (x ∷ xs) room (unless met (after p met (length x) r) (past (length x) on))
+    → Passes mode p (x ∷ xs) room (unless met (walkedTo p met (length x) r) (past (length x) on))
 place-passes mode p x xs room r Nothing on e f same h =
     let left = drop-one-more (h .count) x xs in
     let to-room = e ∙ same refl in

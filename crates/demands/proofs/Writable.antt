@@ -30,9 +30,9 @@ use Rattle.writer.specs.State.{isPart, laidOf, endIn}
 use Rattle.writer.specs.Answers.{Left, Added}
 use Rattle.writer.specs.Block.{wordsIn}
 use Rattle.writer.specs.Opening.{isNext, openBlocked, opening}
-use Rattle.writer.specs.Adding.{valued, illShaped, isFull, isOther, addFault, todo, room, adding}
+use Rattle.writer.specs.Adding.{valued, illShaped, isFull, isOther, addFault, todo, fitting, adding}
 use Rattle.writer.specs.Closing.{closing}
-use Rattle.writer.specs.Course.{joined}
+use Rattle.writer.specs.Filling.{joined}
 use Rattle.writer.proofs.Keeps.{open-leaves, close-leaves, add-leaves}
 use Rattle.writer.proofs.Refusals.{begun, can-add}
 use Rattle.writer.proofs.Pieces.{some-left, rest-left}
@@ -360,7 +360,7 @@ module _ (system mode : ℕ) (f v : Bool) (t : Settings) (held : Held t) (known 
             number = w .number;
             settings = w .settings;
           } in
-          let k = room (d .writer) (todo (d .writer) kind vs) in
+          let k = fitting (d .writer) (todo (d .writer) kind vs) in
           let rest = rest-left (d .writer) (d .now .words) kind vs clear e in
           let words = wordsIn (t .block) mode kind vs in
           let less = fewer (length words) (laidOf (d .writer .rest)) k (endIn (d .writer)) (placeOf (d .writer .place)) (length (todo (d .writer) kind vs)) (left (d′ .writer .rest) b)

@@ -24,11 +24,11 @@ use Rattle.writer.specs.declared.state.Writer.{Writer}
 use Rattle.writer.specs.State.{laidOf, impossible, endIn}
 use Rattle.writer.specs.Block.{wordsIn}
 use Rattle.writer.specs.Adding.{addFault}
-use Rattle.writer.specs.Course.{Written, areaFrom, pieceOf}
+use Rattle.writer.specs.Filling.{Written, areaFrom, pieceOf}
 use Rattle.reader.specs.declared.state.Reader.{Reader}
 use Rattle.reader.specs.State.{capacity, fresh}
 use Rattle.reader.specs.Jump.{jumpFrom}
-use Rattle.reader.specs.Reading.{call, refused, begun, readFault, reading}
+use Rattle.reader.specs.Reading.{reply, refused, begun, readFault, reading}
 use Rattle.reader.specs.Lending.{isBegun}
 use Rattle.demands.specs.All.{All}
 use Rattle.demands.specs.Sending.{Call, Block, Piece, Complete, Sent, sentFresh, blocksOf, joinedPieces}
@@ -101,10 +101,10 @@ pub record Demand2 : Type 0 where
       → isBegun (reading st line room .told .event) ≡ eqb (lineFault (st .system) (st .mode) line) 0
   -- and then the call's whole answer: begun with the number and the settings that stand in the line, which written again are its 53 words
   pub told : (st : Reader) (line room : List ℕ) → readFault st (length line) (length room) ≡ 0 → st .place ≡ Shut → lineFault (st .system) (st .mode) line ≡ 0
-      → (reading st line room ≡ call (begun st (numberOf line) (settingsOf line)) room) × (part 4 53 line ≡ headerWords (numberOf line) (settingsOf line))
+      → (reading st line room ≡ reply (begun st (numberOf line) (settingsOf line)) room) × (part 4 53 line ≡ headerWords (numberOf line) (settingsOf line))
   -- else refused with the number of the fault; and what that leaves
   pub not-told : (st : Reader) (line room : List ℕ) → readFault st (length line) (length room) ≡ 0 → st .place ≡ Shut
-      → (n : ℕ) → lineFault (st .system) (st .mode) line ≡ n → (n ≡ 0 → ⊥) → reading st line room ≡ call (refused st n) room
+      → (n : ℕ) → lineFault (st .system) (st .mode) line ≡ n → (n ≡ 0 → ⊥) → reading st line room ≡ reply (refused st n) room
   -- any system and mode, any calls, a room of 16,384 words with any content
   pub heard : (system mode : ℕ) (cs : List Call) (room : List ℕ) → length room ≡ capacity → (hs : List Heard)
       → Reads (fresh system mode) room (map (λ (s : Sent). s .words) (sentFresh system mode cs)) hs

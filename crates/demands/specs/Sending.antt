@@ -15,7 +15,7 @@ use Rattle.writer.specs.Answers.{Left, Added}
 use Rattle.writer.specs.Opening.{opening}
 use Rattle.writer.specs.Adding.{adding}
 use Rattle.writer.specs.Closing.{closing}
-use Rattle.writer.specs.Course.{pieceOf, asLaid}
+use Rattle.writer.specs.Filling.{pieceOf, asLaid}
 
 -- A call on the writer, accepted or refused. Opening is lent a line with any words in it; adding and closing are lent the line
 -- that was opened last, as the call before left it. Settings are any value of their type.

@@ -14,7 +14,7 @@ use Rattle.writer.specs.declared.state.Rest.the-variants.{NoBlock, Part}
 use Rattle.writer.specs.declared.state.Writer.{Writer}
 use Rattle.writer.specs.declared.state.Answer.the-variants.{Done}
 use Rattle.writer.specs.Closing.{closing}
-use Rattle.writer.specs.Course.{joined, Filling}
+use Rattle.writer.specs.Filling.{joined, Filling}
 use Rattle.demands.specs.All.{All}
 use Rattle.demands.specs.Sending.{Call, Block, Complete, Sent, sentFresh, blocksOf}
 

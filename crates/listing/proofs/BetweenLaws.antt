@@ -13,7 +13,7 @@ use Rattle.lists.proofs.Tests.{true-false, pick-false}
 use Rattle.line.specs.Check.{fits, lineFault}
 use Rattle.course.specs.declared.Place.the-variants.{Shut, At}
 use Rattle.reader.specs.declared.state.Reader.{Reader}
-use Rattle.reader.specs.Reading.{Call, call, refused, begun, readFault, readingIn, reading}
+use Rattle.reader.specs.Reading.{Reply, reply, refused, begun, readFault, readingIn, reading}
 use Rattle.reader.specs.Lending.{isLast}
 use Rattle.reader.proofs.Ends.{Ended, Further}
 use Rattle.reader.proofs.AtCapacity.{ready, unfaulted, accepts, refuses, read-possible, call-moves}
@@ -26,11 +26,11 @@ pub record Rests (st : Reader) (t : Listed) : Type 0 where
   pub same : t .state .system ≡ st .system
 
 -- a call that reported the last event is the last
-by-last : (n : ℕ) (line : List ℕ) (s : Listed) (x : Call) → reading (s .state) line (s .room) ≡ x → isLast (x .told .event) ≡ true
+by-last : (n : ℕ) (line : List ℕ) (s : Listed) (x : Reply) → reading (s .state) line (s .room) ≡ x → isLast (x .told .event) ≡ true
     → x .told .state .place ≡ Shut → x .told .state .system ≡ s .state .system → Rests (s .state) (calledBy n line (called line s))
 by-last n line s x is last shut same =
-    subst (Rests (s .state)) (sym (none-behind n line (called line s) (ap (λ (y : Call). isLast (y .told .event)) is ∙ last)))
-    (record { shut = ap (λ (y : Call). y .told .state .place) is ∙ shut; same = ap (λ (y : Call). y .told .state .system) is ∙ same })
+    subst (Rests (s .state)) (sym (none-behind n line (called line s) (ap (λ (y : Reply). isLast (y .told .event)) is ∙ last)))
+    (record { shut = ap (λ (y : Reply). y .told .state .place) is ∙ shut; same = ap (λ (y : Reply). y .told .state .system) is ∙ same })
 
 over-then : (n : ℕ) (line : List ℕ) (s : Listed) → s .over ≡ false → calledBy (suc n) line s .over ≡ true → calledBy n line (called line s) .over ≡ true
 over-then n line s o e = sym (ap (λ (x : Listed). x .over) (one-more n line s o)) ∙ e
@@ -59,20 +59,20 @@ module _ (n : ℕ) (line : List ℕ) (s : Listed) (shut : s .state .place ≡ Sh
   begun-shut fit good =
       let is = accepts st line (s .room) fit shut good in
       let r = ready st line (s .room) fit in
-      let system : reading st line (s .room) .told .state .system ≡ st .system = ap (λ (y : Call). y .told .state .system) is in
-      let mode : reading st line (s .room) .told .state .mode ≡ st .mode = ap (λ (y : Call). y .told .state .mode) is in
+      let system : reading st line (s .room) .told .state .system ≡ st .system = ap (λ (y : Reply). y .told .state .system) is in
+      let mode : reading st line (s .room) .told .state .mode ≡ st .mode = ap (λ (y : Reply). y .told .state .mode) is in
       let again = unfaulted (reading st line (s .room) .told .state) line (reading st line (s .room) .room)
       (record {
         fit = ap₂ (λ (i j : ℕ). fits i j line) system mode ∙ r .fit;
-        long = ap (λ (y : Call). length (y .room)) is ∙ r .long;
+        long = ap (λ (y : Reply). length (y .room)) is ∙ r .long;
         state = read-possible st line (s .room) (r .state);
       }) in
-      let x = rest-shut n line (called line s) 0 (ap (λ (y : Call). isLast (y .told .event)) is) again (ap (λ (y : Call). y .told .state .place) is) (over-then n line s o e) in
+      let x = rest-shut n line (called line s) 0 (ap (λ (y : Reply). isLast (y .told .event)) is) again (ap (λ (y : Reply). y .told .state .place) is) (over-then n line s o e) in
       record { shut = x .shut; same = x .same ∙ system }
 
   fit-shut : readFault (s .state) (length line) (length (s .room)) ≡ 0 → (k : ℕ) → lineFault (s .state .system) (s .state .mode) line ≡ k → Rests (s .state) (calledBy n line (called line s))
   fit-shut fit zero is = begun-shut fit is
-  fit-shut fit (suc k) is = by-last n line s (call (refused st (suc k)) (s .room)) (refuses st line (s .room) fit shut (suc k) is (λ z. omega arith)) refl refl refl
+  fit-shut fit (suc k) is = by-last n line s (reply (refused st (suc k)) (s .room)) (refuses st line (s .room) fit shut (suc k) is (λ z. omega arith)) refl refl refl
 
   any-shut : (b : Bool) → eqb (readFault (s .state) (length line) (length (s .room))) 0 ≡ b → Rests (s .state) (calledBy n line (called line s))
   unfolding readingIn

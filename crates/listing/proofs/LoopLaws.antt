@@ -8,7 +8,7 @@ use native.Mathlib.Omega.{arith}
 use lib.ListN.{length, take}
 use Rattle.reader.specs.declared.state.Reader.{Reader}
 use Rattle.reader.specs.declared.state.Told.{Told}
-use Rattle.reader.specs.Reading.{Call, call, reading}
+use Rattle.reader.specs.Reading.{Reply, reply, reading}
 use Rattle.reader.specs.Lending.{isLast}
 use Rattle.rows.specs.Rows.{rowText}
 use Rattle.listing.specs.Lines.{Listed, listed, called, calledBy, most, listing, Between, Lists}
@@ -29,7 +29,7 @@ lines-start line st before blank = record { is = refl; few = omega arith; short 
 
 -- a call that was taken: what it told, the room and the text behind it
 pub record Taken (line : List ℕ) (state : Reader) (room text : List ℕ) (n : ℕ) (told : Told) (room′ text′ : List ℕ) (more : Bool) (n′ : ℕ) : Type 0 where
-  pub call-is : call told room′ ≡ reading state line room
+  pub call-is : reply told room′ ≡ reading state line room
   pub row-is : take n′ text′ ≡ take n text ++ rowText (told .event)
   pub at-most : n′ ≤ n + 48
   pub more-is : more ≡ not (isLast (told .event))
@@ -46,7 +46,7 @@ after-call : (line : List ℕ) (state : Reader) (room text : List ℕ) (n : ℕ)
     → listed (not more) (told .state) room′ (take n′ text′) ≡ called line (listed false state room (take n text))
 after-call line state room text n told room′ text′ more n′ t =
     ap₂ (λ (b : Bool) (s : List ℕ). listed b (told .state) room′ s) (ap not (t .more-is) ∙ twice (isLast (told .event))) (t .row-is)
-    ∙ ap (λ (x : Call). listed (isLast (x .told .event)) (x .told .state) (x .room) (take n text ++ rowText (x .told .event))) (t .call-is)
+    ∙ ap (λ (x : Reply). listed (isLast (x .told .event)) (x .told .state) (x .room) (take n text ++ rowText (x .told .event))) (t .call-is)
 
 pub lines-turn : (line : List ℕ) (st : Reader) (before blank : List ℕ) (state : Reader) (room text : List ℕ) (on : Bool) (calls n : ℕ)
     (told : Told) (room′ text′ : List ℕ) (more : Bool) (n′ : ℕ)

@@ -14,7 +14,7 @@ use Rattle.machine.specs.declared.phase.Phase.{Phase}
 use Rattle.machine.specs.declared.step.Met.the-variants.{Nothing}
 use Rattle.machine.specs.declared.step.Step.{Step}
 use Rattle.machine.specs.Machine.{stepOf}
-use Rattle.machine.specs.Walk.{Walk, after, past, isNothing, collectedOf, stored, walkOf}
+use Rattle.machine.specs.Walk.{Walk, walkedTo, past, isNothing, collectedOf, stored, walkOf}
 use Rattle.machine.specs.Runs.{takenBy, ranPhase, ranRoom}
 use Rattle.machine.proofs.WalkLaws.{past-zero, past-past, word-goes, word-stops}
 use Rattle.machine.proofs.RunLaws.{run-taken, taken-within}
@@ -45,10 +45,10 @@ module _ (mode : ℕ) (words : List ℕ) (start : Walk) (room : List ℕ) (p : P
       }
 
   -- the words' end
-  pub going-end : length words ≤ i → after p Nothing i room ≡ start
+  pub going-end : length words ≤ i → walkedTo p Nothing i room ≡ start
   unfolding walkOf
   going-end h =
-      ap (λ (n : ℕ). after p Nothing n room) (sym (add-zero i))
+      ap (λ (n : ℕ). walkedTo p Nothing n room) (sym (add-zero i))
       ∙ ap (λ (ws : List ℕ). past i (walkOf mode p ws room)) (sym (drop-of-length-le words h))
       ∙ g .same
 
@@ -66,7 +66,7 @@ module _ (mode : ℕ) (words : List ℕ) (start : Walk) (room : List ℕ) (p : P
               ∙ g .same;
         }
 
-    pub going-stop : isNothing (s .met) ≡ false → after (s .phase) (s .met) (i + 1) next ≡ start
+    pub going-stop : isNothing (s .met) ≡ false → walkedTo (s .phase) (s .met) (i + 1) next ≡ start
     going-stop e =
         ap (λ (x : Walk). past i x) (sym (word-stops mode p (getD words i 0) (drop (i + 1) words) room s is next put e))
         ∙ ap (λ (ws : List ℕ). past i (walkOf mode p ws room)) (sym (next-drop words i inside))

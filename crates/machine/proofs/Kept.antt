@@ -23,7 +23,7 @@ use Rattle.machine.specs.declared.step.Met.the-variants.{Nothing, Whole,
 use Rattle.machine.specs.declared.step.Step.{Step}
 use Rattle.machine.specs.Phases.{misphased}
 use Rattle.machine.specs.Machine.{on, dropped, idleStep, kindStep, countStep, counted, endStep, valueStep, dataStep, stepBy, stepOf}
-use Rattle.machine.specs.Walk.{Walk, after, past, unless, isNothing, collectedOf, stored, walkOf}
+use Rattle.machine.specs.Walk.{Walk, walkedTo, past, unless, isNothing, collectedOf, stored, walkOf}
 use Rattle.machine.specs.Places.{placesIn, metAt, placeRoom, walkPlaces}
 
 -- ---- one word
@@ -146,7 +146,7 @@ walk-kept mode p (w ∷ ws) room =
     let same : length r ≡ length room = stored-long (s .keeps) (collectedOf p) (valueOf mode w) room in
     let x = walkOf mode (s .phase) ws r in
     let h = walk-kept mode (s .phase) ws r in
-    either (s .met) (after (s .phase) (s .met) 1 r) (past 1 x) (Kept p room (suc (length ws)))
+    either (s .met) (walkedTo (s .phase) (s .met) 1 r) (past 1 x) (Kept p room (suc (length ws)))
     (record { room-long = same; at-most = omega arith; at-least = λ e. omega arith; phased = step-steady (length room) p w .phased })
     (record {
       room-long = h .room-long ∙ same;
@@ -185,7 +185,7 @@ places-along mode p size (suc n) ws room h =
     let o = walkPlaces mode p (placesIn size n (drop size ws)) room in
     let rest : n * size ≤ length (drop size ws) = rw (length-drop size ws) (omega arith) in
     let on = places-along mode p size n (drop size ws) room rest in
-    either met (after p met (length x) (placeRoom met vs room)) (past (length x) o) (Along p size (suc n) room)
+    either met (walkedTo p met (length x) (placeRoom met vs room)) (past (length x) o) (Along p size (suc n) room)
     (record {
       count = 1;
       at-most = omega arith;

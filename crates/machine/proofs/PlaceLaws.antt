@@ -19,7 +19,7 @@ use Rattle.words.specs.declared.class.Class.the-variants.{Byte}
 use Rattle.machine.specs.declared.phase.Phase.{Phase}
 use Rattle.machine.specs.declared.step.Met.{Met}
 use Rattle.machine.specs.declared.step.Met.the-variants.{Nothing, Whole}
-use Rattle.machine.specs.Walk.{Walk, after, past, unless, isNothing}
+use Rattle.machine.specs.Walk.{Walk, walkedTo, past, unless, isNothing}
 use Rattle.machine.specs.Places.{placesIn, placeMet, metAt, placeRoom, walkPlaces, walkFixed}
 use Rattle.machine.proofs.WalkLaws.{past-past, goes, stops}
 
@@ -53,7 +53,7 @@ drop-take-one (suc n) l h = step l ∙ (let e : n ≡ suc n - 1 = omega arith in
 module _ (mode : ℕ) (p : Phase) (size : ℕ) (one : 1 ≤ size) where
   -- what a place of that report, length and values does to a walk that would go on
   abbrev at-place : List ℕ → Walk → Met → ℕ → List ℕ → Walk
-  at-place room on met n vs = unless met (after p met n (placeRoom met (map (valueOf mode) vs) room)) (past n on)
+  at-place room on met n vs = unless met (walkedTo p met n (placeRoom met (map (valueOf mode) vs) room)) (past n on)
 
   first-place : (m : ℕ) (ws room : List ℕ) → size ≤ length ws
       → walkPlaces mode p (placesIn size (suc m) ws) room
@@ -69,12 +69,12 @@ module _ (mode : ℕ) (p : Phase) (size : ℕ) (one : 1 ≤ size) where
 
   -- the place in front reports something
   pub front-stops : (ws room r : List ℕ) (met : Met) → size ≤ length ws → met ≡ metAt (getD ws 0 0) (size - 1) → isNothing met ≡ false
-      → r ≡ placeRoom met (map (valueOf mode) (take (size - 1) (drop 1 ws))) room → after p met size r ≡ walkPlaces mode p (placesIn size (length ws / size) ws) room
+      → r ≡ placeRoom met (map (valueOf mode) (take (size - 1) (drop 1 ws))) room → walkedTo p met size r ≡ walkPlaces mode p (placesIn size (length ws / size) ws) room
   front-stops ws room r met h is e laid =
       let n = (length ws - size) / size in
       let on = walkPlaces mode p (placesIn size n (drop size ws)) room in
       let count : length ws / size ≡ suc n = div-eq-sub-div one h ∙ add-one n in
-      ap (after p met size) laid
+      ap (walkedTo p met size) laid
       ∙ sym
       (ap (λ (k : ℕ). walkPlaces mode p (placesIn size k ws) room) count
       ∙ first-place n ws room h
@@ -96,21 +96,21 @@ module _ (mode : ℕ) (p : Phase) (size : ℕ) (one : 1 ≤ size) where
         (ap (λ (w : ℕ). metAt w (size - 1)) (getD-drop i ws 0 0 ∙ ap (λ (j : ℕ). getD ws j 0) (add-zero i)) ∙ sym is)
         ∙ ap₂ (λ (k : ℕ) (l : List ℕ). at-place room (on (drop (i + size) ws)) met size (take k l)) short (drop-drop 1 i ws)
 
-    pub turn-stops : (r : List ℕ) → isNothing met ≡ false → r ≡ placeRoom met (map (valueOf mode) (take (i + size - (i + 1)) (drop (i + 1) ws))) room → after p met (i + size) r ≡ whole
-    turn-stops r e laid = ap (after p met (i + size)) laid ∙ ap (past i) (sym (at-turn ∙ stops met _ _ e)) ∙ inv
+    pub turn-stops : (r : List ℕ) → isNothing met ≡ false → r ≡ placeRoom met (map (valueOf mode) (take (i + size - (i + 1)) (drop (i + 1) ws))) room → walkedTo p met (i + size) r ≡ whole
+    turn-stops r e laid = ap (walkedTo p met (i + size)) laid ∙ ap (past i) (sym (at-turn ∙ stops met _ _ e)) ∙ inv
 
     pub turn-goes : isNothing met ≡ true → past (i + size) (walkPlaces mode p (placesIn size n (drop (i + size) ws)) room) ≡ whole
     turn-goes e = sym (past-past i size _) ∙ ap (past i) (sym (at-turn ∙ goes met _ _ e)) ∙ inv
 
   -- no place is left
   pub turns-end : (m i : ℕ) (ws room r : List ℕ) (whole : Walk) → m ≡ 0 → r ≡ room
-      → past i (walkPlaces mode p (placesIn size m (drop i ws)) room) ≡ whole → after p Nothing i r ≡ whole
+      → past i (walkPlaces mode p (placesIn size m (drop i ws)) room) ≡ whole → walkedTo p Nothing i r ≡ whole
   unfolding walkPlaces
   turns-end m i ws room r whole none e inv =
-      ap₂ (after p Nothing) (sym (add-zero i)) e ∙ ap (λ (n : ℕ). past i (walkPlaces mode p (placesIn size n (drop i ws)) room)) (sym none) ∙ inv
+      ap₂ (walkedTo p Nothing) (sym (add-zero i)) e ∙ ap (λ (n : ℕ). past i (walkPlaces mode p (placesIn size n (drop i ws)) room)) (sym none) ∙ inv
 
 -- the walk over whole places is the one that the tests let through
-pub fixed-none : (mode : ℕ) (p : Phase) (size : ℕ) (ws room : List ℕ) → (eqb size 0 || ltb (length room) (size - 1)) ≡ true → after p Nothing 0 room ≡ walkFixed mode p size ws room
+pub fixed-none : (mode : ℕ) (p : Phase) (size : ℕ) (ws room : List ℕ) → (eqb size 0 || ltb (length room) (size - 1)) ≡ true → walkedTo p Nothing 0 room ≡ walkFixed mode p size ws room
 unfolding walkFixed
 fixed-none mode p size ws room e = sym (pick-true _ _ e)
 

@@ -13,14 +13,14 @@ use Rattle.machine.specs.declared.step.Met.{Met}
 use Rattle.machine.specs.declared.step.Met.the-variants.{Nothing, Whole, Lost}
 use Rattle.machine.specs.declared.step.Step.{Step}
 use Rattle.machine.specs.Machine.{stepOf}
-use Rattle.machine.specs.Walk.{Walk, after, past, unless, isNothing, collectedOf, stored, walkOf, takenOn}
+use Rattle.machine.specs.Walk.{Walk, walkedTo, past, unless, isNothing, collectedOf, stored, walkOf, takenOn}
 
 -- ---- words taken before
 pub past-zero : (x : Walk) → past 0 x ≡ x
-past-zero x = ap (λ (n : ℕ). after (x .answer .phase) (x .answer .met) n (x .room)) (zero-add (x .answer .taken))
+past-zero x = ap (λ (n : ℕ). walkedTo (x .answer .phase) (x .answer .met) n (x .room)) (zero-add (x .answer .taken))
 
 pub past-past : (a b : ℕ) (x : Walk) → past a (past b x) ≡ past (a + b) x
-past-past a b x = ap (λ (n : ℕ). after (x .answer .phase) (x .answer .met) n (x .room)) (sym (add-assoc a b (x .answer .taken)))
+past-past a b x = ap (λ (n : ℕ). walkedTo (x .answer .phase) (x .answer .met) n (x .room)) (sym (add-assoc a b (x .answer .taken)))
 
 -- ---- the next word
 pub goes : (met : Met) (stop on : Walk) → isNothing met ≡ true → unless met stop on ≡ on
@@ -39,7 +39,7 @@ module _ (mode : ℕ) (p : Phase) (w : ℕ) (ws room : List ℕ) (s : Step) (is 
   unfolding walkOf
   word-goes e = rw (put, is) (goes (stepOf (length room) p w .met) _ _ (rw is at e))
 
-  pub word-stops : isNothing (s .met) ≡ false → walkOf mode p (w ∷ ws) room ≡ after (s .phase) (s .met) 1 next
+  pub word-stops : isNothing (s .met) ≡ false → walkOf mode p (w ∷ ws) room ≡ walkedTo (s .phase) (s .met) 1 next
   unfolding walkOf
   word-stops e = rw (put, is) (stops (stepOf (length room) p w .met) _ _ (rw is at e))
 
@@ -55,7 +55,7 @@ past-on mode n ys x =
     ∙ ap (unless (x .answer .met) (past n x)) (past-past n (x .answer .taken) (walkOf mode (x .answer .phase) ys (x .room)))
 
 join-by : (mode n : ℕ) (ys : List ℕ) (p : Phase) (met : Met) (room : List ℕ) (on whole : Walk) → whole ≡ takenOn mode ys on
-    → unless met (after p met n room) (past n whole) ≡ takenOn mode ys (unless met (after p met n room) (past n on))
+    → unless met (walkedTo p met n room) (past n whole) ≡ takenOn mode ys (unless met (walkedTo p met n room) (past n on))
 join-by mode n ys p Nothing room on whole e = ap (past n) e ∙ past-on mode n ys on
 join-by mode n ys p (Whole k m) room on whole e = refl
 join-by mode n ys p (Lost m) room on whole e = refl

@@ -18,7 +18,7 @@ use Rattle.machine.specs.declared.step.Met.{Met}
 use Rattle.machine.specs.declared.step.Met.the-variants.{Nothing, Whole, Lost}
 use Rattle.machine.specs.Phases.{phaseNumbers, metNumbers}
 use Rattle.machine.specs.Machine.{stepOf}
-use Rattle.machine.specs.Walk.{Walk, after, past, unless, collectedOf, stored, walkOf}
+use Rattle.machine.specs.Walk.{Walk, walkedTo, past, unless, collectedOf, stored, walkOf}
 use Rattle.machine.specs.Places.{placesIn, placeMet, metAt, walkPlaces, walkFixed}
 use Rattle.machine.specs.StepNumbers.{metBy, phaseBy}
 use Rattle.machine.specs.WalkNumbers.{Reported, reported, numbersOf, walkBy, placeBy, placesBy, fixedBy}
@@ -27,7 +27,7 @@ use Rattle.machine.proofs.StepLaws.{step-numbers}
 
 -- a walk stops where the report's number is not 0
 stops : (met : Met) (p : Phase) (n : ℕ) (room : List ℕ) (on : Walk) (l : Reported) → numbersOf (on .answer) ≡ l
-    → numbersOf (unless met (after p met n room) (past n on) .answer) ≡ pick (eqb (getD (metNumbers met) 0 0) 0) l (reported (phaseNumbers p) (metNumbers met))
+    → numbersOf (unless met (walkedTo p met n room) (past n on) .answer) ≡ pick (eqb (getD (metNumbers met) 0 0) 0) l (reported (phaseNumbers p) (metNumbers met))
 unfolding pick
 stops Nothing p n room on l e = e
 stops (Whole k m) p n room on l e = refl
@@ -79,7 +79,7 @@ either false x y k l e f = f
 pub fixed-numbers : (mode : ℕ) (p : Phase) (size : ℕ) (ws room : List ℕ) → numbersOf (walkFixed mode p size ws room .answer) ≡ fixedBy (length room) (phaseNumbers p) size ws
 unfolding walkFixed fixedBy
 fixed-numbers mode p size ws room =
-    either (eqb size 0 || ltb (length room) (size - 1)) (after p Nothing 0 room) (walkPlaces mode p (placesIn size (length ws / size) ws) room) _ _ refl
+    either (eqb size 0 || ltb (length room) (size - 1)) (walkedTo p Nothing 0 room) (walkPlaces mode p (placesIn size (length ws / size) ws) room) _ _ refl
     (places-numbers mode p (placesIn size (length ws / size) ws) room)
 
 pub fixed-numbered : (mode : ℕ) (p : Phase) (size : ℕ) (ws room : List ℕ) (x : Walk) → x ≡ walkFixed mode p size ws room

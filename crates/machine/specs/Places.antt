@@ -13,7 +13,7 @@ use Rattle.words.specs.declared.class.Class.the-variants.{Byte, Other, Separato
 use Rattle.machine.specs.declared.phase.Phase.{Phase}
 use Rattle.machine.specs.declared.step.Met.{Met}
 use Rattle.machine.specs.declared.step.Met.the-variants.{Nothing, Whole, Lost}
-use Rattle.machine.specs.Walk.{Walk, after, past, unless}
+use Rattle.machine.specs.Walk.{Walk, walkedTo, past, unless}
 
 -- n places of that size, from the first word on
 abbrev pub placesIn : ℕ → ℕ → List ℕ → List (List ℕ)
@@ -40,13 +40,13 @@ placeRoom (Lost n) vs room = room
 
 -- place after place, to the first report or to the last
 unfoldable pub walkPlaces : ℕ → Phase → List (List ℕ) → List ℕ → Walk
-walkPlaces mode p [] room = after p Nothing 0 room
+walkPlaces mode p [] room = walkedTo p Nothing 0 room
 walkPlaces mode p (x ∷ xs) room =
     let met = metAt (getD x 0 0) (length (drop 1 x)) in
     let on = walkPlaces mode p xs room in
-    unless met (after p met (length x) (placeRoom met (map (valueOf mode) (drop 1 x)) room)) (past (length x) on)
+    unless met (walkedTo p met (length x) (placeRoom met (map (valueOf mode) (drop 1 x)) room)) (past (length x) on)
 
 -- the places of that size in words, as many as there are whole ones; none where a place has no word, or the room is shorter than its values
 unfoldable pub walkFixed : ℕ → Phase → ℕ → List ℕ → List ℕ → Walk
 walkFixed mode p size ws room =
-    pick (eqb size 0 || ltb (length room) (size - 1)) (after p Nothing 0 room) (walkPlaces mode p (placesIn size (length ws / size) ws) room)
+    pick (eqb size 0 || ltb (length room) (size - 1)) (walkedTo p Nothing 0 room) (walkPlaces mode p (placesIn size (length ws / size) ws) room)

@@ -21,12 +21,12 @@ pub record Walk : Type 0 where
 abbrev pub leaves : Walked → List ℕ → Walk
 leaves x room = record { answer = x; room = room }
 
-abbrev pub after : Phase → Met → ℕ → List ℕ → Walk
-after p met n room = leaves (record { phase = p; met = met; taken = n }) room
+abbrev pub walkedTo : Phase → Met → ℕ → List ℕ → Walk
+walkedTo p met n room = leaves (record { phase = p; met = met; taken = n }) room
 
 -- n words were taken before
 abbrev pub past : ℕ → Walk → Walk
-past n x = after (x .answer .phase) (x .answer .met) (n + x .answer .taken) (x .room)
+past n x = walkedTo (x .answer .phase) (x .answer .met) (n + x .answer .taken) (x .room)
 
 -- a walk stops where something is met, and else goes on
 abbrev pub unless : Met → Walk → Walk → Walk
@@ -54,12 +54,12 @@ unfoldable pub stored : Bool → ℕ → ℕ → List ℕ → List ℕ
 stored keeps m v room = pick keeps (set room m v) room
 
 unfoldable pub walkOf : ℕ → Phase → List ℕ → List ℕ → Walk
-walkOf mode p [] room = after p Nothing 0 room
+walkOf mode p [] room = walkedTo p Nothing 0 room
 walkOf mode p (w ∷ ws) room =
     let s = stepOf (length room) p w in
     let r = stored (s .keeps) (collectedOf p) (valueOf mode w) room in
     let on = walkOf mode (s .phase) ws r in
-    unless (s .met) (after (s .phase) (s .met) 1 r) (past 1 on)
+    unless (s .met) (walkedTo (s .phase) (s .met) 1 r) (past 1 on)
 
 -- a walk taken on over more words, unless it has stopped
 abbrev pub takenOn : ℕ → List ℕ → Walk → Walk

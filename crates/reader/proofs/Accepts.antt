@@ -13,7 +13,7 @@ use Rattle.line.specs.Check.{numberOf, settingsOf, lineFault, checkedFrom, chec
 use Rattle.course.specs.declared.Place.{Place}
 use Rattle.course.specs.declared.Place.the-variants.{Shut}
 use Rattle.reader.specs.declared.state.Reader.{Reader}
-use Rattle.reader.specs.Reading.{Call, call, refused, begun, starts, readFaultIn, readFrom, readingIn}
+use Rattle.reader.specs.Reading.{Reply, reply, refused, begun, starts, readFaultIn, readFrom, readingIn}
 use Rattle.reader.specs.Lending.{isBegun}
 
 -- no fault 1 or 2: the call goes by the place
@@ -33,17 +33,17 @@ refuses-by st line zero h = absurd (h refl)
 refuses-by st line (suc n) h = pick-false _ _ (eqb·suc-zero n)
 
 module _ (c : ℕ) (st : Reader) (line room : List ℕ) (fit : readFaultIn c st (length line) (length room) ≡ 0) (at : st .place ≡ Shut) where
-  shut-call : readingIn c st line room ≡ call (starts st (checkedFrom (lineFault (st .system) (st .mode) line) line)) room
+  shut-call : readingIn c st line room ≡ reply (starts st (checkedFrom (lineFault (st .system) (st .mode) line) line)) room
   unfolding checkedOf
   shut-call = by-place c st line room Shut fit at
 
   -- no fault: begun, with the number and the settings that stand in the line
-  pub accepts : lineFault (st .system) (st .mode) line ≡ 0 → readingIn c st line room ≡ call (begun st (numberOf line) (settingsOf line)) room
-  accepts e = shut-call ∙ ap (λ x. call x room) (begins-by st line (lineFault (st .system) (st .mode) line) e)
+  pub accepts : lineFault (st .system) (st .mode) line ≡ 0 → readingIn c st line room ≡ reply (begun st (numberOf line) (settingsOf line)) room
+  accepts e = shut-call ∙ ap (λ x. reply x room) (begins-by st line (lineFault (st .system) (st .mode) line) e)
 
   -- a fault: refused, with its number
-  pub refuses : (n : ℕ) → lineFault (st .system) (st .mode) line ≡ n → (n ≡ 0 → ⊥) → readingIn c st line room ≡ call (refused st n) room
-  refuses n is h = shut-call ∙ ap (λ (k : ℕ). call (starts st (checkedFrom k line)) room) is ∙ ap (λ x. call x room) (refuses-by st line n h)
+  pub refuses : (n : ℕ) → lineFault (st .system) (st .mode) line ≡ n → (n ≡ 0 → ⊥) → readingIn c st line room ≡ reply (refused st n) room
+  refuses n is h = shut-call ∙ ap (λ (k : ℕ). reply (starts st (checkedFrom k line)) room) is ∙ ap (λ x. reply x room) (refuses-by st line n h)
 
 begun-is : (st : Reader) (line : List ℕ) → isBegun (begun st (numberOf line) (settingsOf line) .event) ≡ true
 unfolding begun
@@ -54,5 +54,5 @@ pub accepted-exactly : (c : ℕ) (st : Reader) (line room : List ℕ) → readFa
 accepted-exactly c st line room fit at = go (lineFault (st .system) (st .mode) line) refl
   where
     go : (n : ℕ) → lineFault (st .system) (st .mode) line ≡ n → isBegun (readingIn c st line room .told .event) ≡ eqb n 0
-    go zero is = ap (λ (x : Call). isBegun (x .told .event)) (accepts c st line room fit at is) ∙ begun-is st line
-    go (suc n) is = ap (λ (x : Call). isBegun (x .told .event)) (refuses c st line room fit at (suc n) is (λ z. omega arith)) ∙ sym (eqb·suc-zero n)
+    go zero is = ap (λ (x : Reply). isBegun (x .told .event)) (accepts c st line room fit at is) ∙ begun-is st line
+    go (suc n) is = ap (λ (x : Reply). isBegun (x .told .event)) (refuses c st line room fit at (suc n) is (λ z. omega arith)) ∙ sym (eqb·suc-zero n)

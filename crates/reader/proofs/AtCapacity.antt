@@ -17,7 +17,7 @@ use Rattle.machine.specs.Phases.{isBusy}
 use Rattle.reader.specs.declared.state.Reader.{Reader}
 use Rattle.reader.specs.declared.state.Event.the-variants.{Refused}
 use Rattle.reader.specs.State.{capacity, fresh, impossible}
-use Rattle.reader.specs.Reading.{call, refused, begun, readFault, readFrom, reading}
+use Rattle.reader.specs.Reading.{reply, refused, begun, readFault, readFrom, reading}
 use Rattle.reader.specs.Lending.{isBegun, endsWithin}
 use Rattle.reader.proofs.Ready as readiness
 use Rattle.reader.proofs.Stays as staying
@@ -45,11 +45,11 @@ pub by-place : (st : Reader) (line room : List ℕ) (p : Place) → readFault st
 by-place = accepting.by-place capacity
 
 pub accepts : (st : Reader) (line room : List ℕ) → readFault st (length line) (length room) ≡ 0 → st .place ≡ Shut → lineFault (st .system) (st .mode) line ≡ 0
-    → reading st line room ≡ call (begun st (numberOf line) (settingsOf line)) room
+    → reading st line room ≡ reply (begun st (numberOf line) (settingsOf line)) room
 accepts = accepting.accepts capacity
 
 pub refuses : (st : Reader) (line room : List ℕ) → readFault st (length line) (length room) ≡ 0 → st .place ≡ Shut → (n : ℕ) → lineFault (st .system) (st .mode) line ≡ n
-    → (n ≡ 0 → ⊥) → reading st line room ≡ call (refused st n) room
+    → (n ≡ 0 → ⊥) → reading st line room ≡ reply (refused st n) room
 refuses = accepting.refuses capacity
 
 pub accepted-exactly : (st : Reader) (line room : List ℕ) → readFault st (length line) (length room) ≡ 0 → st .place ≡ Shut

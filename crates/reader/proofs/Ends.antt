@@ -26,7 +26,7 @@ use Rattle.reader.specs.declared.state.Reader.{Reader}
 use Rattle.reader.specs.declared.state.Event.the-variants.{End}
 use Rattle.machine.specs.Walk.{Walk, isNothing, walkOf}
 use Rattle.machine.specs.Places.{placesIn, walkPlaces}
-use Rattle.reader.specs.Reading.{Call, call, refused, begun, wordsFrom, walkFrom, toldBy, readFaultIn, readingIn}
+use Rattle.reader.specs.Reading.{Reply, reply, refused, begun, wordsFrom, walkFrom, toldBy, readFaultIn, readingIn}
 use Rattle.reader.specs.Lending.{isLast, endsWithinIn}
 use Rattle.machine.proofs.Kept.{walk-kept, places-along, places-some}
 use Rattle.reader.proofs.Ready.{ReadyIn, ready, at-q, in-end, words-long}
@@ -87,11 +87,11 @@ module _ (c : ℕ) (wide : 1920 ≤ c) (st : Reader) (q : ℕ) (line room : List
 
 -- ---- a call on a begun line
 -- the line's end, or a place further on
-pub record Ended (x : Call) : Type 0 where
+pub record Ended (x : Reply) : Type 0 where
   pub event : x .told .event ≡ End
   pub place : x .told .state .place ≡ Shut
 
-pub record Further (q end : ℕ) (x : Call) : Type 0 where
+pub record Further (q end : ℕ) (x : Reply) : Type 0 where
   pub next : ℕ
   pub event : isLast (x .told .event) ≡ false
   pub place : x .told .state .place ≡ At next
@@ -99,22 +99,22 @@ pub record Further (q end : ℕ) (x : Call) : Type 0 where
   pub within : next ≤ end
 
 -- what every call on a line keeps, accepted or gone on with
-pub record Same (st : Reader) (room : List ℕ) (x : Call) : Type 0 where
+pub record Same (st : Reader) (room : List ℕ) (x : Reply) : Type 0 where
   pub system : x .told .state .system ≡ st .system
   pub mode : x .told .state .mode ≡ st .mode
   pub room-long : length (x .room) ≡ length room
 
-pub record Stands (st : Reader) (q end : ℕ) (room : List ℕ) (x : Call) : Type 0 where
+pub record Stands (st : Reader) (q end : ℕ) (room : List ℕ) (x : Reply) : Type 0 where
   pub same : Same st room x
   pub settings : x .told .state .settings ≡ st .settings
   pub moved : Ended x ⊎ Further q end x
 
-pub record Moves (c : ℕ) (st : Reader) (q : ℕ) (line room : List ℕ) (x : Call) : Type 0 where
+pub record Moves (c : ℕ) (st : Reader) (q : ℕ) (line room : List ℕ) (x : Reply) : Type 0 where
   pub stands : Stands st q (endIn st) room x
   pub fit : readFaultIn c (x .told .state) (length line) (length (x .room)) ≡ 0
 
 stands-by : (st : Reader) (q end taken : ℕ) (p : Phase) (met : Met) (room left : List ℕ) → length left ≡ length room → q + taken ≤ end → (isNothing met ≡ false → 1 ≤ taken)
-    → Stands st q end room (call (toldBy st (q + taken) p met) left)
+    → Stands st q end room (reply (toldBy st (q + taken) p met) left)
 stands-by st q end taken p Nothing room left l a b =
     record { same = record { system = refl; mode = refl; room-long = l }; settings = refl; moved = inl (record { event = refl; place = refl }) }
 stands-by st q end taken p (Whole k n) room left l a b =
@@ -147,8 +147,8 @@ call-moves c wide st q line room fit at =
     record { stands = s; fit = fit-again c st line room fit (s .same) }
 
 -- ---- the first of several calls: it is the line's last, or a later one is
-last-ends : (c : ℕ) (n : ℕ) (st : Reader) (line room : List ℕ) (x : Call) → readingIn c st line room ≡ x → isLast (x .told .event) ≡ true → endsWithinIn c (suc n) st line room ≡ true
-last-ends c n st line room x is e = or-left _ _ (ap (λ (y : Call). isLast (y .told .event)) is ∙ e)
+last-ends : (c : ℕ) (n : ℕ) (st : Reader) (line room : List ℕ) (x : Reply) → readingIn c st line room ≡ x → isLast (x .told .event) ≡ true → endsWithinIn c (suc n) st line room ≡ true
+last-ends c n st line room x is e = or-left _ _ (ap (λ (y : Reply). isLast (y .told .event)) is ∙ e)
 
 later-ends : (c : ℕ) (n : ℕ) (st : Reader) (line room : List ℕ) → endsWithinIn c n (readingIn c st line room .told .state) line (readingIn c st line room .room) ≡ true → endsWithinIn c (suc n) st line room ≡ true
 later-ends c n st line room e = or-right (isLast (readingIn c st line room .told .event)) _ e
@@ -176,12 +176,12 @@ rest-ends c wide st q line room fit at = ends-by c wide (endIn st - q + 1) st q 
 
 -- ---- a whole line
 -- what a line begun leaves: the line's start, and its settings
-record Starts (st : Reader) (line room : List ℕ) (x : Call) : Type 0 where
+record Starts (st : Reader) (line room : List ℕ) (x : Reply) : Type 0 where
   same : Same st room x
   settings : x .told .state .settings ≡ settingsOf line
   place : x .told .state .place ≡ At 0
 
-begun-starts : (st : Reader) (line room : List ℕ) → Starts st line room (call (begun st (numberOf line) (settingsOf line)) room)
+begun-starts : (st : Reader) (line room : List ℕ) → Starts st line room (reply (begun st (numberOf line) (settingsOf line)) room)
 unfolding begun
 begun-starts st line room = record { same = record { system = refl; mode = refl; room-long = refl }; settings = refl; place = refl }
 
@@ -209,7 +209,7 @@ module _ (c : ℕ) (wide : 1920 ≤ c) (st : Reader) (line room : List ℕ) (at 
   fit-ends : readFaultIn c st (length line) (length room) ≡ 0 → (n : ℕ) → lineFault (st .system) (st .mode) line ≡ n
       → endsWithinIn c (suc (suc (areaLength (systemOf (st .system) .payload) (settingsOf line .flag)))) st line room ≡ true
   fit-ends fit zero is = begun-ends fit is
-  fit-ends fit (suc n) is = last-ends c (suc area) st line room (call (refused st (suc n)) room) (refuses c st line room fit at (suc n) is (λ z. omega arith)) refl
+  fit-ends fit (suc n) is = last-ends c (suc area) st line room (reply (refused st (suc n)) room) (refuses c st line room fit at (suc n) is (λ z. omega arith)) refl
 
   -- 1 and 2 are refusals as well
   any-ends : (b : Bool) → eqb (readFaultIn c st (length line) (length room)) 0 ≡ b

@@ -21,7 +21,7 @@ use Rattle.machine.specs.Places.{placesIn, walkPlaces}
 use Rattle.reader.specs.declared.state.Reader.{Reader}
 use Rattle.reader.specs.declared.state.Event.the-variants.{Refused}
 use Rattle.reader.specs.State.{capacity}
-use Rattle.reader.specs.Reading.{Call, call, starts, wordsFrom, walkFrom, goesFrom, readFaultIn, readFrom, readingIn, reading}
+use Rattle.reader.specs.Reading.{Reply, reply, starts, wordsFrom, walkFrom, goesFrom, readFaultIn, readFrom, readingIn, reading}
 
 module _ (st : Reader) (l m room : List ℕ) (a : Alike (systemOf (st .system)) l m) where
   words-alike : (q : ℕ) → wordsFrom st q l ≡ wordsFrom st q m
@@ -32,7 +32,7 @@ module _ (st : Reader) (l m room : List ℕ) (a : Alike (systemOf (st .system)) 
 
   from-alike : (p : Place) → readFrom p st l room ≡ readFrom p st m room
   unfolding walkFrom
-  from-alike Shut = ap (λ (c : Checked). call (starts st c) room) (gap-unseen (st .system) (st .mode) l m a .1)
+  from-alike Shut = ap (λ (c : Checked). reply (starts st c) room) (gap-unseen (st .system) (st .mode) l m a .1)
   from-alike (At q) =
       let size = sizeOf (st .settings .block) in
       let left = placesOf (systemOf (st .system) .payload) (st .settings .block) - q / size in
@@ -44,8 +44,8 @@ module _ (st : Reader) (l m room : List ℕ) (a : Alike (systemOf (st .system)) 
   unfolding readingIn
   unread-in c =
       ap₂
-      (λ (n : ℕ) (x : Call).
-      pick (eqb (readFaultIn c st n (length room)) 0) x (call (record { event = Refused (readFaultIn c st n (length room)) false; state = st }) room))
+      (λ (n : ℕ) (x : Reply).
+      pick (eqb (readFaultIn c st n (length room)) 0) x (reply (record { event = Refused (readFaultIn c st n (length room)) false; state = st }) room))
       (a .long) (from-alike (st .place))
 
   -- the same event, state and room

@@ -29,7 +29,7 @@ use Rattle.reader.specs.declared.jump.Jump.{Jump}
 use Rattle.reader.specs.Jump.{jumpFrom, jumpNumbers}
 use Rattle.reader.specs.Events.{yesNo, eventNumbers}
 use Rattle.reader.specs.State.{capacity}
-use Rattle.reader.specs.Reading.{Call, call, refused, goesOn, begun, starts, toldBy, walkFrom, readFault, readFrom, readingIn, reading}
+use Rattle.reader.specs.Reading.{Reply, reply, refused, goesOn, begun, starts, toldBy, walkFrom, readFault, readFrom, readingIn, reading}
 use Rattle.reader.specs.Numbers.{jumpBy, isOpen, refusedBy, begunBy, startBy, laterBy, placeBy, readBy}
 use Rattle.reader.proofs.Accepts.{begins-by, refuses-by}
 
@@ -92,18 +92,18 @@ place-numbers : (p : Place) (st : Reader) (line room : List ℕ) → eventNumber
 place-numbers Shut st line room = start-numbers st line
 place-numbers (At q) st line room = later-numbers st _ _ (walkFrom st q line room .answer .met)
 
-call-by : (n : ℕ) (st : Reader) (room : List ℕ) (x : Call) (l : List ℤ) → eventNumbers (x .told .event) ≡ l
-    → eventNumbers (pick (eqb n 0) x (call (record { event = Refused n false; state = st }) room) .told .event) ≡ pick (eqb n 0) l (pos 0 ∷ pos n ∷ pos 0 ∷ [])
+call-by : (n : ℕ) (st : Reader) (room : List ℕ) (x : Reply) (l : List ℤ) → eventNumbers (x .told .event) ≡ l
+    → eventNumbers (pick (eqb n 0) x (reply (record { event = Refused n false; state = st }) room) .told .event) ≡ pick (eqb n 0) l (pos 0 ∷ pos n ∷ pos 0 ∷ [])
 call-by n st room x l e = go (eqb n 0)
   where
-    go : (t : Bool) → eventNumbers (pick t x (call (record { event = Refused n false; state = st }) room) .told .event) ≡ pick t l (pos 0 ∷ pos n ∷ pos 0 ∷ [])
-    go true = ap (λ (y : Call). eventNumbers (y .told .event)) (pick-true x _ refl) ∙ e ∙ sym (pick-true l _ refl)
-    go false = ap (λ (y : Call). eventNumbers (y .told .event)) (pick-false x _ refl) ∙ sym (pick-false l _ refl)
+    go : (t : Bool) → eventNumbers (pick t x (reply (record { event = Refused n false; state = st }) room) .told .event) ≡ pick t l (pos 0 ∷ pos n ∷ pos 0 ∷ [])
+    go true = ap (λ (y : Reply). eventNumbers (y .told .event)) (pick-true x _ refl) ∙ e ∙ sym (pick-true l _ refl)
+    go false = ap (λ (y : Reply). eventNumbers (y .told .event)) (pick-false x _ refl) ∙ sym (pick-false l _ refl)
 
 pub read-numbers : (st : Reader) (line room : List ℕ) → eventNumbers (reading st line room .told .event) ≡ readBy st line room
 unfolding readingIn readBy
 read-numbers st line room =
     call-by (readFault st (length line) (length room)) st room (readFrom (st .place) st line room) (placeBy (st .place) st line room) (place-numbers (st .place) st line room)
 
-pub reads-numbered : (st : Reader) (line room : List ℕ) (x : Call) → x ≡ reading st line room → (x ≡ reading st line room) × (eventNumbers (x .told .event) ≡ readBy st line room)
-reads-numbered st line room x e = (e, ap (λ (y : Call). eventNumbers (y .told .event)) e ∙ read-numbers st line room)
+pub reads-numbered : (st : Reader) (line room : List ℕ) (x : Reply) → x ≡ reading st line room → (x ≡ reading st line room) × (eventNumbers (x .told .event) ≡ readBy st line room)
+reads-numbered st line room x e = (e, ap (λ (y : Reply). eventNumbers (y .told .event)) e ∙ read-numbers st line room)

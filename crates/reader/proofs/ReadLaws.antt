@@ -24,7 +24,7 @@ use Rattle.course.specs.Course.{blocksEnd}
 use Rattle.course.proofs.CourseLaws.{end-in-area, placed-end, grid-left, grid-some, grid-count, whole-small}
 use Rattle.reader.specs.declared.state.Reader.{Reader}
 use Rattle.reader.specs.State.{impossibleIn}
-use Rattle.reader.specs.Reading.{call, wordsFrom, walkFrom, readFaultIn, readFrom, readingIn}
+use Rattle.reader.specs.Reading.{reply, wordsFrom, walkFrom, readFaultIn, readFrom, readingIn}
 use Rattle.reader.specs.declared.state.Event.the-variants.{Refused}
 use Rattle.reader.proofs.Ready.{ReadyIn, ready, at-q, in-end, words-long}
 use Rattle.reader.proofs.Stays.{walk-goes}
@@ -128,10 +128,10 @@ own-capacity c st line room e =
 
 -- ---- what the call tells
 module _ (c : ℕ) (st : Reader) (line room : List ℕ) (fault : ℕ) (is : fault ≡ readFaultIn c st (length line) (length room)) where
-  pub read-refused : (fault ≡ 0 → ⊥) → call (record { event = Refused fault false; state = st }) room ≡ readingIn c st line room
+  pub read-refused : (fault ≡ 0 → ⊥) → reply (record { event = Refused fault false; state = st }) room ≡ readingIn c st line room
   unfolding readingIn
   read-refused h =
-      ap (λ (n : ℕ). call (record { event = Refused n false; state = st }) room) is
+      ap (λ (n : ℕ). reply (record { event = Refused n false; state = st }) room) is
       ∙ sym (pick-false _ _ (ap (λ (n : ℕ). eqb n 0) (sym is) ∙ ne-eqb fault 0 h))
 
   pub read-goes : fault ≡ 0 → readFrom (st .place) st line room ≡ readingIn c st line room

@@ -35,7 +35,7 @@ use Rattle.reader.specs.declared.state.Event.the-variants.{Refused, Begu
 use Rattle.reader.specs.declared.state.Told.{Told}
 use Rattle.reader.specs.Jump.{jumpFrom, isZero}
 use Rattle.reader.specs.State.{fresh, impossibleIn}
-use Rattle.reader.specs.Reading.{Call, refused, goesOn, begun as beginning, starts, wordsFrom, walkFrom, toldBy, goesFrom, readFaultsIn, readFaultIn, readFrom, readingIn}
+use Rattle.reader.specs.Reading.{Reply, refused, goesOn, begun as beginning, starts, wordsFrom, walkFrom, toldBy, goesFrom, readFaultsIn, readFaultIn, readFrom, readingIn}
 use Rattle.machine.proofs.Kept.{walk-kept, places-along}
 use Rattle.reader.proofs.Ready.{course-of, phase-of, possible-by, ReadyIn, ready, at-q, in-end, words-long}
 
@@ -172,7 +172,7 @@ from-place (At q) st line room at r = on-possible st q line room at r
 pub read-possible : (c : ℕ) (st : Reader) (line room : List ℕ) → impossibleIn c st ≡ false → impossibleIn c (readingIn c st line room .told .state) ≡ false
 unfolding readingIn
 read-possible c st line room e =
-    pick-elim (λ (x : Call). impossibleIn c (x .told .state) ≡ false) (eqb (readFaultIn c st (length line) (length room)) 0)
+    pick-elim (λ (x : Reply). impossibleIn c (x .told .state) ≡ false) (eqb (readFaultIn c st (length line) (length room)) 0)
     (λ h. from-place (st .place) st line room refl (ready c st line room (eqb-true _ _ h))) (λ h. e)
 
 -- ---- any calls, from a fresh reader on
@@ -223,7 +223,7 @@ fault-2 c st long room e z = true-false (sym (given-holds 2 (readFaultsIn c st l
 pub never-2 : (c : ℕ) (st : Reader) → impossibleIn c st ≡ false → (line room : List ℕ) (d : Bool) → readingIn c st line room .told .event ≡ Refused 2 d → ⊥
 unfolding readingIn
 never-2 c st p line room d e =
-    pick-elim (λ (x : Call). refusal (x .told .event) ≡ 2 → ⊥) (eqb (readFaultIn c st (length line) (length room)) 0)
+    pick-elim (λ (x : Reply). refusal (x .told .event) ≡ 2 → ⊥) (eqb (readFaultIn c st (length line) (length room)) 0)
     (λ h. from-2 (st .place) st line room) (λ h. fault-2 c st (length line) (length room) p)
     (ap refusal e)
 

@@ -33,12 +33,12 @@ use Rattle.reader.specs.Jump.{jumpFrom, isZero}
 use Rattle.reader.specs.State.{capacity, impossibleIn}
 
 -- what a call leaves: what it tells, and the room
-pub record Call : Type 0 where
+pub record Reply : Type 0 where
   pub told : Told
   pub room : List ℕ
 
-abbrev pub call : Told → List ℕ → Call
-call x room = record { told = x; room = room }
+abbrev pub reply : Told → List ℕ → Reply
+reply x room = record { told = x; room = room }
 
 -- the same system and mode
 abbrev pub becomes : Reader → Last → Settings → Place → Phase → Reader
@@ -85,8 +85,8 @@ toldBy st q p Nothing = record { event = End; state = becomes st (st .last) (st 
 toldBy st q p (Whole k n) = record { event = Block k n; state = becomes st (st .last) (st .settings) (At q) p }
 toldBy st q p (Lost n) = record { event = Drop n; state = becomes st (st .last) (st .settings) (At q) p }
 
-abbrev pub goesFrom : Reader → ℕ → Walk → Call
-goesFrom st q x = call (toldBy st (q + x .answer .taken) (x .answer .phase) (x .answer .met)) (x .room)
+abbrev pub goesFrom : Reader → ℕ → Walk → Reply
+goesFrom st q x = reply (toldBy st (q + x .answer .taken) (x .answer .phase) (x .answer .met)) (x .room)
 
 -- ---- the call
 -- 1: unknown system or mode, line not L long, room not c; 2: state not possible. The capacity c is 16,384.
@@ -99,15 +99,15 @@ readFaultIn c st long room = lowestOf (readFaultsIn c st long room)
 abbrev pub readFault : Reader → ℕ → ℕ → ℕ
 readFault st long room = readFaultIn capacity st long room
 
-abbrev pub readFrom : Place → Reader → List ℕ → List ℕ → Call
-readFrom Shut st line room = call (starts st (checkedOf (st .system) (st .mode) line)) room
+abbrev pub readFrom : Place → Reader → List ℕ → List ℕ → Reply
+readFrom Shut st line room = reply (starts st (checkedOf (st .system) (st .mode) line)) room
 readFrom (At q) st line room = goesFrom st q (walkFrom st q line room)
 
 -- 1 and 2 leave everything
-unfoldable pub readingIn : ℕ → Reader → List ℕ → List ℕ → Call
+unfoldable pub readingIn : ℕ → Reader → List ℕ → List ℕ → Reply
 readingIn c st line room =
     let fault = readFaultIn c st (length line) (length room) in
-    pick (eqb fault 0) (readFrom (st .place) st line room) (call (record { event = Refused fault false; state = st }) room)
+    pick (eqb fault 0) (readFrom (st .place) st line room) (reply (record { event = Refused fault false; state = st }) room)
 
-abbrev pub reading : Reader → List ℕ → List ℕ → Call
+abbrev pub reading : Reader → List ℕ → List ℕ → Reply
 reading st line room = readingIn capacity st line room

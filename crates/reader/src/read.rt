@@ -26,7 +26,7 @@ ghost use Rattle.course.specs.declared.Place.the-variants.{At};
 ghost use Rattle.machine.specs.Walk.{leaves};
 ghost use Rattle.reader.specs.Events.{eventNumbers};
 ghost use Rattle.reader.specs.Numbers.{readBy};
-ghost use Rattle.reader.specs.Reading.{call, walkFrom, toldBy, goesFrom, readFaultIn, readingIn, reading};
+ghost use Rattle.reader.specs.Reading.{reply, walkFrom, toldBy, goesFrom, readFaultIn, readingIn, reading};
 
 // What a call asks before it reads: the lower of 1 and 2 that holds, or 0; and then where blocks end in the line, and the size of a fixed
 // block.
@@ -121,7 +121,7 @@ fn tell(st: Reader, q: usize, phase: Phase, met: Met) -> Told
 fn read_on(st: Reader, end: usize, size: u16, q: usize, line: &[u16], room: &mut [u16]) -> Told
     requires { ⌜ (st .place ≡ At q) × (readFaultIn (length (now room)) st (length (now line)) (length (now room)) ≡ 0) × (1920 ≤ length (now room))
         × (end ≡ blocksEnd (systemOf (st .system) .payload) (st .settings .block) (st .settings .flag)) × (size ≡ sizeOf (st .settings .block)) ⌝ }
-    ensures { λ r. ⌜ call r (now (room .exit)) ≡ goesFrom st q (walkFrom st q (now (line .entry)) (now (room .entry))) ⌝ }
+    ensures { λ r. ⌜ reply r (now (room .exit)) ≡ goesFrom st q (walkFrom st q (now (line .entry)) (now (room .entry))) ⌝ }
 {
     let x = walk_from(st, end, size, q, line, room);
     let phase = x.phase;
@@ -132,7 +132,7 @@ fn read_on(st: Reader, end: usize, size: u16, q: usize, line: &[u16], room: &mut
 // A reading call of that capacity, in which every fixed block has room.
 fn read_in(capacity: usize, st: Reader, line: &[u16], room: &mut [u16]) -> Told
     requires { ⌜ 1920 ≤ capacity ⌝ }
-    ensures { λ r. ⌜ call r (now (room .exit)) ≡ readingIn capacity st (now (line .entry)) (now (room .entry)) ⌝ }
+    ensures { λ r. ⌜ reply r (now (room .exit)) ≡ readingIn capacity st (now (line .entry)) (now (room .entry)) ⌝ }
 {
     let x = ask(capacity, st, line.len(), room.len());
     if x.fault != 0 {
@@ -153,7 +153,7 @@ fn read_in(capacity: usize, st: Reader, line: &[u16], room: &mut [u16]) -> Told
 
 // A reading call; and the numbers of what it reports, by the state, the line and the room.
 pub fn read(st: Reader, line: &[u16], room: &mut [u16]) -> Told
-    ensures { λ r. ⌜ (call r (now (room .exit)) ≡ reading st (now (line .entry)) (now (room .entry)))
+    ensures { λ r. ⌜ (reply r (now (room .exit)) ≡ reading st (now (line .entry)) (now (room .entry)))
         × (eventNumbers (r .event) ≡ readBy st (now (line .entry)) (now (room .entry))) ⌝ }
 {
     read_in(state::CAPACITY, st, line, room)

@@ -29,7 +29,7 @@ use Rattle.writer.specs.declared.state.Answer.the-variants.{Refused, Don
 use Rattle.writer.specs.Answers.{left, Added, added}
 use Rattle.writer.specs.State.{laidOf, endIn, moved}
 use Rattle.writer.specs.Block.{blockWords, fixedWords, wordsIn}
-use Rattle.writer.specs.Adding.{addFault, todo, room, adding}
+use Rattle.writer.specs.Adding.{addFault, todo, fitting, adding}
 use Rattle.writer.specs.Closing.{closeFault, sealed, closing}
 use Rattle.writer.proofs.FillLaws.{mid-paste, part-whole}
 use Rattle.writer.proofs.BlockLaws.{words-variable, words-fixed, fixed-long, count, count-fixed, count-between, words-long}
@@ -152,7 +152,7 @@ module _ {w : Writer} {line : List ℕ} {kind : ℕ} {vs : List ℕ} {p j rest k
       let q = placeOf (w .place) in
       let i = laidOf (w .rest) in
       let g = leaves w line kind vs in
-      let some : k ≡ room w ws = f .now ∙ ap₂ (λ (x y : ℕ). min (endIn w - x) y) (f .place) rest-is in
+      let some : k ≡ fitting w ws = f .now ∙ ap₂ (λ (x y : ℕ). min (endIn w - x) y) (f .place) rest-is in
       let pasted = mid-paste line (drop j (wordsIn (w .settings .block) (w .mode) kind vs)) ys a k within hy in
       let first : added answer st (putMid a (a + k - a) line ys) ≡ g p j rest k a = rw (hs, ht, hr, pasted) in
       first
@@ -160,7 +160,7 @@ module _ {w : Writer} {line : List ℕ} {kind : ℕ} {vs : List ℕ} {p j rest k
       ∙ ap (λ (x : ℕ). g q x rest k a) (f .laid)
       ∙ ap (λ (x : ℕ). g q i x k a) rest-is
       ∙ ap (λ (x : ℕ). g q i (length ws) x a) some
-      ∙ ap (λ (x : ℕ). g q i (length ws) (room w ws) x) (f .index ∙ ap (λ (x : ℕ). payloadAt (systemOf (w .system)) + x) (f .place))
+      ∙ ap (λ (x : ℕ). g q i (length ws) (fitting w ws) x) (f .index ∙ ap (λ (x : ℕ). payloadAt (systemOf (w .system)) + x) (f .place))
       ∙ sym (pick-true _ _ (eq-eqb _ _ (f .clear)))
 
 -- ---- adding in a variable line

@@ -28,8 +28,8 @@ use Rattle.writer.specs.declared.state.Laid.the-variants.{Finished, Unfi
 use Rattle.writer.specs.State.{laidOf}
 use Rattle.writer.specs.Block.{countWords, blockWords, fixedWords}
 use Rattle.writer.specs.Answers.{laidNumbers, Added}
-use Rattle.writer.specs.Adding.{addFault, todo, room, adding}
-use Rattle.writer.specs.Course.{pieceOf, asLaid}
+use Rattle.writer.specs.Adding.{addFault, todo, fitting, adding}
+use Rattle.writer.specs.Filling.{pieceOf, asLaid}
 use Rattle.writer.proofs.Keeps.{add-leaves, add-stays}
 use Rattle.writer.proofs.Refusals.{can-add}
 use Rattle.writer.proofs.Writing.{either, piece-law}
@@ -52,7 +52,7 @@ module _ (w : Writer) (line : List ℕ) (kind : ℕ) (vs : List ℕ) where
   ws = todo w kind vs
 
   abbrev k : ℕ
-  k = room w (todo w kind vs)
+  k = fitting w (todo w kind vs)
 
   -- an answer of two numbers is not a refusal
   laid-ok : length (laidNumbers (adding w line kind vs .answer)) ≡ 2 → addFault w (length line) kind vs ≡ 0
@@ -72,7 +72,7 @@ module _ (w : Writer) (line : List ℕ) (kind : ℕ) (vs : List ℕ) where
         let a = can-add w line kind vs ok in
         omega (arith, a .room, a .end, a .fit .long, a .fit .row .room)
 
-    pub piece-laid : pieceOf w line kind vs ≡ take (room w (todo w kind vs)) (todo w kind vs)
+    pub piece-laid : pieceOf w line kind vs ≡ take (fitting w (todo w kind vs)) (todo w kind vs)
     unfolding pieceOf
     piece-laid =
         ap (λ (x : Added). take (placeOf (x .state .place) - placeOf (w .place)) (drop (payloadAt (systemOf (w .system)) + placeOf (w .place)) (x .line))) (add-leaves w line kind vs ok)

@@ -19,7 +19,7 @@ use Rattle.writer.specs.declared.state.Writer.{Writer}
 use Rattle.writer.specs.Block.{fixedWords}
 use Rattle.writer.specs.Answers.{Added}
 use Rattle.writer.specs.Adding.{addFault, adding}
-use Rattle.writer.specs.Course.{pieceOf}
+use Rattle.writer.specs.Filling.{pieceOf}
 use Rattle.writer.proofs.Keeps.{add-leaves}
 use Rattle.writer.proofs.Pieces.{fixed-once}
 use Rattle.writer.proofs.Stays.{fixed-size, fixed-fits}

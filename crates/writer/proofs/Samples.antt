@@ -23,9 +23,9 @@ use Rattle.writer.specs.State.{fresh, impossible, openState}
 use Rattle.writer.specs.Block.{countWords, blockWords, wordsIn}
 use Rattle.writer.specs.Answers.{Left, Added}
 use Rattle.writer.specs.Opening.{openBlocked, openFault, openWords}
-use Rattle.writer.specs.Adding.{valued, illShaped, addFault, todo, room, lay, adding}
+use Rattle.writer.specs.Adding.{valued, illShaped, addFault, todo, fitting, lay, adding}
 use Rattle.writer.specs.Closing.{closeFault, closing}
-use Rattle.writer.specs.Course.{pieceOf, Filling, filled, adds, Written}
+use Rattle.writer.specs.Filling.{pieceOf, Filling, filled, adds, Written}
 use Rattle.writer.proofs.Keeps.{open-leaves, add-leaves, close-leaves}
 use Rattle.writer.proofs.Framing.{front, front-length, framed-front}
 use Rattle.writer.proofs.Writing.{Whole, written}
@@ -107,11 +107,11 @@ worked = 0x309 ∷ 0x101 ∷ 0x203 ∷ 0x200 ∷ 0x200 ∷ 0x200 ∷ 0x200 ∷ 0
 at-20 : Writer
 at-20 = openState start 20 settings
 
-worked-laid : take (room at-20 (todo at-20 1 three)) (todo at-20 1 three) ≡ worked
+worked-laid : take (fitting at-20 (todo at-20 1 three)) (todo at-20 1 three) ≡ worked
 unfolding worked at-20 start settings three pick blocksEnd areaLength wordsIn blockWords countWords wordOf byteWord
 worked-laid = refl
 
-ten : room at-20 (todo at-20 1 three) ≡ 10
+ten : fitting at-20 (todo at-20 1 three) ≡ 10
 unfolding at-20 start settings three pick blocksEnd areaLength wordsIn blockWords countWords
 ten = refl
 
@@ -120,7 +120,7 @@ unfolding at-20 start
 full-long =
     let long = opened-long in
     let k = ten in
-    paste-long opened-words (todo at-20 1 three) 276 (room at-20 (todo at-20 1 three)) (omega arith) (omega arith) ∙ long
+    paste-long opened-words (todo at-20 1 three) 276 (fitting at-20 (todo at-20 1 three)) (omega arith) (omega arith) ∙ long
 
 shuts : closeFault (lay at-20 opened-words 1 three .state) (length (lay at-20 opened-words 1 three .line)) ≡ 0
 unfolding closeFault at-20 start settings three pick fitsLength isSystem isMode impossible settingsFault settingsFaults blockRefused blocksEnd areaLength wordsIn blockWords countWords

@@ -31,7 +31,7 @@ use Rattle.writer.specs.State.{most, isPart, laidOf, fresh, misshapen, i
 use Rattle.writer.specs.Block.{wordsIn}
 use Rattle.writer.specs.Answers.{answerNumbers, laidNumbers, Left, left, Added, added}
 use Rattle.writer.specs.Opening.{openFaults, openFault, opening}
-use Rattle.writer.specs.Adding.{illShaped, isOther, addFaults, addFault, todo, room, adding}
+use Rattle.writer.specs.Adding.{illShaped, isOther, addFaults, addFault, todo, fitting, adding}
 use Rattle.writer.specs.Closing.{closeFaults, closeFault, closing}
 use Rattle.writer.proofs.BlockLaws.{words-variable, words-fixed, block-long, fixed-long}
 use Rattle.writer.proofs.Refusals.{Begun, begun, possible-by, can-open, CanAdd, can-add, can-close}
@@ -142,10 +142,10 @@ module _ (w : Writer) (line : List ℕ) (kind : ℕ) (vs : List ℕ) (ok : addFa
   ws = todo w kind vs
 
   abbrev k : ℕ
-  k = room w (todo w kind vs)
+  k = fitting w (todo w kind vs)
 
   abbrev rest′ : Rest
-  rest′ = pick (eqb (room w (todo w kind vs)) (length (todo w kind vs))) NoBlock (Part kind (length vs) (laidOf (w .rest) + room w (todo w kind vs)))
+  rest′ = pick (eqb (fitting w (todo w kind vs)) (length (todo w kind vs))) NoBlock (Part kind (length vs) (laidOf (w .rest) + fitting w (todo w kind vs)))
 
   adds : CanAdd w line kind vs
   adds = can-add w line kind vs ok
@@ -162,8 +162,8 @@ module _ (w : Writer) (line : List ℕ) (kind : ℕ) (vs : List ℕ) (ok : addFa
       length-drop (laidOf (w .rest)) (wordsIn block (w .mode) kind vs)
       ∙ ap (λ (x : ℕ). x - laidOf (w .rest)) (ap length (words-variable block (w .mode) kind vs v) ∙ block-long (w .mode) kind vs)
 
-  pub part-laid : isVariable (w .settings .block) ≡ true → (room w (todo w kind vs) ≡ length (todo w kind vs) → ⊥)
-      → (1 ≤ laidOf (w .rest) + room w (todo w kind vs)) × (laidOf (w .rest) + room w (todo w kind vs) ≤ length vs + 6)
+  pub part-laid : isVariable (w .settings .block) ≡ true → (fitting w (todo w kind vs) ≡ length (todo w kind vs) → ⊥)
+      → (1 ≤ laidOf (w .rest) + fitting w (todo w kind vs)) × (laidOf (w .rest) + fitting w (todo w kind vs) ≤ length vs + 6)
   part-laid v h =
       part-range (endIn w) (placeOf (w .place)) (length ws) (length vs) (laidOf (w .rest)) k free (variable-long v)
       (laid-most (w .rest) kind (length vs) (at-adding .shaped) (adds .same)) refl h
@@ -196,7 +196,7 @@ module _ (w : Writer) (line : List ℕ) (kind : ℕ) (vs : List ℕ) (ok : addFa
   pub fixed-room : isVariable (w .settings .block) ≡ false → placeOf (w .place) + (length vs + 1) ≤ endIn w
   fixed-room v = let a = fixed-next v in let b = fixed-by (w .place) block kind (length vs) (adds .begun) v (adds .shape) in omega arith
 
-  pub fixed-fits : isVariable (w .settings .block) ≡ false → room w (todo w kind vs) ≡ length (todo w kind vs)
+  pub fixed-fits : isVariable (w .settings .block) ≡ false → fitting w (todo w kind vs) ≡ length (todo w kind vs)
   fixed-fits v = let a = fixed-next v in let b = fixed-size v in omega arith
 
   fixed-after : isVariable (w .settings .block) ≡ false → Begun (moved w (At (placeOf (w .place) + k)) rest′)

@@ -29,9 +29,9 @@ use Rattle.writer.specs.State.{laidOf, endIn}
 use Rattle.writer.specs.Answers.{Left, Added}
 use Rattle.writer.specs.Block.{wordsIn}
 use Rattle.writer.specs.Opening.{openWords, opening}
-use Rattle.writer.specs.Adding.{addFault, todo, room, adding}
+use Rattle.writer.specs.Adding.{addFault, todo, fitting, adding}
 use Rattle.writer.specs.Closing.{sealed, closing}
-use Rattle.writer.specs.Course.{pieceOf, joined, Filling, filled, adds, tries-opening, tries-closing, Written, areaFrom}
+use Rattle.writer.specs.Filling.{pieceOf, joined, Filling, filled, adds, tries-opening, tries-closing, Written, areaFrom}
 use Rattle.writer.proofs.Keeps.{open-clear, open-leaves, open-keeps, close-clear, close-leaves, close-keeps, add-leaves, add-stays}
 use Rattle.writer.proofs.Framing.{front, front-length, framed-front, pasted, seals}
 use Rattle.writer.proofs.Legal.{each-take, each-drop, each-filler, filler-legal, words-legal}
@@ -83,21 +83,21 @@ module _ (system mode : ℕ) (f v : Bool) (n : ℕ) (t : Settings) (held : Held 
     ws = todo w kind vs
 
     abbrev k : ℕ
-    k = room w (todo w kind vs)
+    k = fitting w (todo w kind vs)
 
     place-is : placeOf (w .place) ≡ length a
     place-is = ap placeOf (o .of-place)
 
     -- what is laid
     laid : List ℕ
-    laid = take (room w (todo w kind vs)) (todo w kind vs)
+    laid = take (fitting w (todo w kind vs)) (todo w kind vs)
 
-    k-most : room w (todo w kind vs) ≤ length (todo w kind vs)
+    k-most : fitting w (todo w kind vs) ≤ length (todo w kind vs)
     k-most = omega arith
 
     laid-long : length laid ≡ k
     unfolding laid
-    laid-long = length-take-le (room w (todo w kind vs)) (todo w kind vs) k-most
+    laid-long = length-take-le (fitting w (todo w kind vs)) (todo w kind vs) k-most
 
     fits-in : length a + k ≤ areaLength (systemOf system .payload) (t .flag)
     fits-in =
@@ -115,11 +115,11 @@ module _ (system mode : ℕ) (f v : Bool) (n : ℕ) (t : Settings) (held : Held 
     unfolding laid before
     after-line =
         let p = systemOf system .payload in
-        let long : length (a ++ laid) ≡ length a + room w ws = length-append a laid ∙ ap (λ (x : ℕ). length a + x) laid-long in
-        let rest : p - length a - room w ws ≡ p - length (a ++ laid) = omega arith in
+        let long : length (a ++ laid) ≡ length a + fitting w ws = length-append a laid ∙ ap (λ (x : ℕ). length a + x) laid-long in
+        let rest : p - length a - fitting w ws ≡ p - length (a ++ laid) = omega arith in
         ap (λ (x : Added). x .line) (add-leaves w line kind vs ok)
-        ∙ ap₂ (λ (l : List ℕ) (i : ℕ). paste l i (todo w kind vs) (room w (todo w kind vs))) line-now at-is
-        ∙ pasted before a (todo w kind vs) (p - length a) 0x200 (room w (todo w kind vs)) k-most
+        ∙ ap₂ (λ (l : List ℕ) (i : ℕ). paste l i (todo w kind vs) (fitting w (todo w kind vs))) line-now at-is
+        ∙ pasted before a (todo w kind vs) (p - length a) 0x200 (fitting w (todo w kind vs)) k-most
         ∙ ap (λ (m : ℕ). before ++ ((a ++ laid) ++ replicate m 0x200)) rest
         ∙ sym (framed-front (systemOf system) f v n t [] _)
 
@@ -137,7 +137,7 @@ module _ (system mode : ℕ) (f v : Bool) (n : ℕ) (t : Settings) (held : Held 
     unfolding pieceOf laid
     piece-is =
         ap (λ (x : Added). take (placeOf (x .state .place) - placeOf (w .place)) (drop (payloadAt (systemOf (w .system)) + placeOf (w .place)) (x .line))) (add-leaves w line kind vs ok)
-        ∙ piece-law line (todo w kind vs) (payloadAt (systemOf (w .system)) + placeOf (w .place)) (placeOf (w .place)) (room w (todo w kind vs)) (subst (λ (i : ℕ). i ≤ length line) (sym at-is) long-line) k-most
+        ∙ piece-law line (todo w kind vs) (payloadAt (systemOf (w .system)) + placeOf (w .place)) (placeOf (w .place)) (fitting w (todo w kind vs)) (subst (λ (i : ℕ). i ≤ length line) (sym at-is) long-line) k-most
 
     laid-legal : each (legal mode (isVariable (t .block))) laid ≡ true
     unfolding laid
@@ -146,7 +146,7 @@ module _ (system mode : ℕ) (f v : Bool) (n : ℕ) (t : Settings) (held : Held 
         let words : each (legal mode (isVariable (t .block))) (wordsIn (w .settings .block) (w .mode) kind vs) ≡ true =
         ap₂ (λ (m : ℕ) (u : Settings). each (legal m (isVariable (u .block))) (wordsIn (w .settings .block) (w .mode) kind vs)) (sym (o .of-mode)) (sym (o .of-settings))
         ∙ words-legal (w .settings .block) (w .mode) kind vs (x .values) in
-        each-take _ (room w (todo w kind vs)) (todo w kind vs) (each-drop _ (laidOf (w .rest)) (wordsIn (w .settings .block) (w .mode) kind vs) words)
+        each-take _ (fitting w (todo w kind vs)) (todo w kind vs) (each-drop _ (laidOf (w .rest)) (wordsIn (w .settings .block) (w .mode) kind vs) words)
 
     pub laid-on : Open system mode f v n t (a ++ pieceOf w line kind vs) (adding w line kind vs .state) (adding w line kind vs .line)
     laid-on =

@@ -61,8 +61,8 @@ addFault w long kind vs = lowestOf (addFaults w long kind vs)
 abbrev pub todo : Writer → ℕ → List ℕ → List ℕ
 todo w kind vs = drop (laidOf (w .rest)) (wordsIn (w .settings .block) (w .mode) kind vs)
 
-abbrev pub room : Writer → List ℕ → ℕ
-room w ws = min (endIn w - placeOf (w .place)) (length ws)
+abbrev pub fitting : Writer → List ℕ → ℕ
+fitting w ws = min (endIn w - placeOf (w .place)) (length ws)
 
 -- k of the words ws laid at the place: finished where these are all
 abbrev pub laying : Writer → List ℕ → ℕ → ℕ → List ℕ → ℕ → Added
@@ -72,7 +72,7 @@ laying w line kind n ws k =
     (paste line (payloadAt (systemOf (w .system)) + placeOf (w .place)) ws k)
 
 abbrev pub lay : Writer → List ℕ → ℕ → List ℕ → Added
-lay w line kind vs = let ws = todo w kind vs in laying w line kind (length vs) ws (room w ws)
+lay w line kind vs = let ws = todo w kind vs in laying w line kind (length vs) ws (fitting w ws)
 
 -- Adding lays as much of a block as fits; a refusal leaves line and state.
 unfoldable pub adding : Writer → List ℕ → ℕ → List ℕ → Added

@@ -5,4 +5,4 @@ pub mod Opening
 pub mod Adding
 pub mod Numbers
 pub mod Closing
-pub mod Course
+pub mod Filling

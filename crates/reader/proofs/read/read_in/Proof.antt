@@ -4,7 +4,7 @@ use mathlib.Core.Path.{sym, ap, _∙_}
 use native.Mathlib.Omega.{arith}
 use Rattle.course.specs.declared.Place.{Place}
 use Rattle.reader.specs.declared.state.Told.{Told}
-use Rattle.reader.specs.Reading.{call, readFrom}
+use Rattle.reader.specs.Reading.{reply, readFrom}
 use Rattle.reader.proofs.ReadLaws.{own-capacity, read-refused, read-goes}
 use borrow.Author.Needs.{needs}
 use Rattle.reader.proofs.read.read_in.Statement.{statement}
@@ -28,7 +28,7 @@ returns-2 : tie.Need-returns-2
 returns-2 c =
     let f = c .before .before .before in
     let g = f .before .before .before .before .before .args in
-    ap (λ (t : Told). call t (g .room .now)) (c .start .ensures .0)
+    ap (λ (t : Told). reply t (g .room .now)) (c .start .ensures .0)
     ∙ ap (λ (p : Place). readFrom p (g .st) (g .line .now) (g .room .now)) (sym (c .before .enum-told .given .1))
     ∙ read-goes (g .capacity) (g .st) (g .line .now) (g .room .now) _ (f .before .before .ask .ensures .0) (f .if1 .left)
 

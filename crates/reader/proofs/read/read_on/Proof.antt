@@ -6,7 +6,7 @@ use lib.ListN.{length}
 use Rattle.line.specs.Systems.{systemOf}
 use Rattle.reader.specs.declared.state.Told.{Told}
 use Rattle.machine.specs.Walk.{Walk}
-use Rattle.reader.specs.Reading.{call, goesFrom}
+use Rattle.reader.specs.Reading.{reply, goesFrom}
 use Rattle.reader.proofs.Ready.{ready}
 use Rattle.reader.proofs.ReadLaws.{next-small}
 use borrow.Author.Needs.{needs}
@@ -37,7 +37,7 @@ returns : tie.Need-returns
 returns c =
     let x = c .before .before .before .before in
     let g = x .before .before .before .before .args in
-    ap (λ (t : Told). call t (x .walk-from .last .1 .1 .1 .1 .1 .0)) (c .tell .ensures) ∙ ap (goesFrom (g .st) (g .q)) (x .walk-from .ensures)
+    ap (λ (t : Told). reply t (x .walk-from .last .1 .1 .1 .1 .1 .0)) (c .tell .ensures) ∙ ap (goesFrom (g .st) (g .q)) (x .walk-from .ensures)
 
 pub read-on-spec : {M : Type 1} → statement M
 read-on-spec =
