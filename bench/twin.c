@@ -85,7 +85,7 @@ static size_t end_of(const Settings *s) {
     return (size_t)FIXED[s->block & 63].size * FIXED[s->block & 63].places;
 }
 
-// The lowest of 10 to 14 that holds, or 0.
+// The lowest of 10 to 13 that holds, or 0. The reserved bytes are not asked.
 static int settings_fault(const Settings *s) {
     if (s->code != 1)
         return 10;
@@ -93,9 +93,7 @@ static int settings_fault(const Settings *s) {
         return 11;
     if (s->block != VARIABLE && (s->block >= 128 || !FIXED[s->block & 63].places || (s->flag == 1 && end_of(s) == PAYLOAD)))
         return 12;
-    if (s->flag > 1)
-        return 13;
-    return s->reserved[0] | s->reserved[1] | s->reserved[2] | s->reserved[3] | s->reserved[4] ? 14 : 0;
+    return s->flag > 1 ? 13 : 0;
 }
 
 // What a writer and a reader both hold is possible: busy says an unfinished block or an open phase, place is NONE where no line is begun.

@@ -21,13 +21,12 @@ REFUSED = [
     (20, 1, 0, 0x09, 0, 0),  # none at 270
     (20, 1, 0, 0x37, 1, 0),  # fills all words
     (20, 1, 0, 0xC1, 2, 0),
-    (20, 1, 0, 0xC1, 0, 1),
     # for a cause and the next
     (526, 2, 0, 0xC1, 0, 0),
     (20, 2, 2, 0xC1, 0, 0),
     (20, 1, 2, 0x81, 0, 0),
     (20, 1, 0, 0x81, 2, 0),
-    (20, 1, 0, 0xC1, 2, 255),
+    (20, 1, 0, 0xC1, 2, 255),  # a reserved byte is none
 ]
 
 
@@ -45,7 +44,7 @@ def openings(book):
         book.note("a line opened, and a second opening")
         try_open(525, 1, 1, 0x77, 0, 0)
         try_open(1, 1, 1, 0x77, 0, 0)  # 20
-        try_open(1, 1, 1, 0x77, 0, 1)  # 14 and 20
+        try_open(1, 1, 1, 0x77, 0, 1)  # 20, with a reserved byte
         try_open(526, 1, 1, 0x77, 0, 0)  # 9 and 20
         book.end()
         book.end()  # 20

@@ -6,14 +6,17 @@ from courses import ENDS
 from lines import BYTE_FORM, DATA_FORM, SAME
 from words import VARIABLE
 
+# What a line can be refused for beside 1: 3 to 16, of which 14 is no longer given
+FAULTS = (*range(3, 14), 15, 16)
+
 # Rows of each name, and events of each kind in each mode
-ROWS = {"close": 1231, "read": 1880, "room": 159, "opened": 1130, "added": 1000, "closed": 440, "check": 1094, "crc": 172, "header": 30}
-ROWS |= {"state": 1280, "impossible": 555, "words": 16}
+ROWS = {"close": 1231, "read": 2150, "room": 161, "opened": 1720, "added": 1010, "closed": 720, "check": 1342, "crc": 172, "header": 30}
+ROWS |= {"state": 1540, "impossible": 555, "words": 16}
 EVENTS = {"begun": 300, "begun dropped": 15, "begun with an open block": 50, "block": 1000, "end": 400, "refused 1": 80, "refused 2": 30}
-EVENTS |= {f"drop {k}": 4 for k in range(1, 7)} | {f"refused {k}{how}": 1 for k in range(3, 17) for how in ("", " dropped")}
+EVENTS |= {f"drop {k}": 4 for k in range(1, 7)} | {f"refused {k}{how}": 1 for k in FAULTS for how in ("", " dropped")}
 
 # What each call of the writer has to have answered, in each mode: 0 done or finished, 100 unfinished
-ANSWERS = {"opened": (0, 1, 2, *range(9, 15), 20), "added": (0, 100, 1, 2, 17, 18, 19, 20), "closed": (0, 1, 2, 20)}
+ANSWERS = {"opened": (0, 1, 2, *range(9, 14), 20), "added": (0, 100, 1, 2, 17, 18, 19, 20), "closed": (0, 1, 2, 20)}
 
 # Lists of a kind and a length, and how many
 LISTS = {(SAME, 1438): 1, (SAME, 1918): 1, (BYTE_FORM, 5): 6, (BYTE_FORM, 40): 6, (DATA_FORM, 1438): 6, (DATA_FORM, 1918): 6}
@@ -40,7 +43,7 @@ def writer(scope):
 
 def check(scope):
     """What the line check has to have met: each answer in each system, a good line of each kind."""
-    yield from (("check", system, answer) for system in scope.systems for answer in (0, 1, *range(3, 17)))
+    yield from (("check", system, answer) for system in scope.systems for answer in (0, 1, *FAULTS))
     yield from (("good", *kind) for kind in itertools.product(scope.systems, (8, 9), (VARIABLE, 0x21), (0, 1)))
 
 

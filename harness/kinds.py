@@ -1,14 +1,18 @@
-"""Kinds of rows at edges, by which enough.py asks for the cases of edges.py: what a step has met beside its answer."""
+"""Kinds of rows at edges, by which enough.py asks for the cases of edges.py and reserved.py: what a step has met beside its answer."""
+from words import VARIABLE, byte_form
 from writer import Writer
 
 EDGE = 0x300  # the first word above data form: B9 and B8 are both 1
 TO_0 = {1: "aai", 3: "flag"}  # settings by their index
+FIVE = range(36, 41)  # the reserved bytes
 
 
 def of_line(scope, system, mode, line, fault):
-    """Where a line that fits has the word 300h, and the answer."""
+    """Where a line that fits has the word 300h, which of the five reserved bytes alone is FFh, and the answer."""
     if not scope.fits(system, mode, line):
         return
+    kind = {byte_form(VARIABLE): "variable", byte_form(0x21): "fixed"}.get(line[47])
+    yield from (("FFh checked", k, *([kind] if fault == 0 else []), fault) for k in alone([w & 0xFF for w in line[49:54]]))
     length, payload, _ = scope.systems[system]
     if EDGE in line[4:57]:
         yield "300h in a header", system, fault
@@ -23,8 +27,24 @@ def to_0(old, new):
         yield TO_0[changed[0]]
 
 
+def alone(five):
+    """The one of the five that is FFh, where all others are 0."""
+    if sorted(five) == [0, 0, 0, 0, 0xFF]:
+        yield FIVE[five.index(0xFF)]
+
+
+def one_changed(old, new):
+    """The one setting that is changed, where it is a reserved byte."""
+    found = [k for k, (a, b) in enumerate(zip(old, new)) if a != b]
+    if len(found) == 1 and found[0] in FIVE:
+        yield found[0]
+
+
 def of_opening(before, number, values, given):
-    """An unfinished block whose next line has a setting at 0; number 0, which alone would be 9."""
+    """An unfinished block whose next line has a setting at 0, or another reserved byte; number 0, which alone would be 9; FFh reserved."""
+    yield from (("FFh opened", k, given) for k in alone(values[36:]))
+    if before.rest:
+        yield from (("opened with another", k, before.mode, given) for k in one_changed(before.settings, values))
     if before.rest:
         yield from (("opened to 0", name, before.mode, given) for name in to_0(before.settings, values))
     if number == 0:
@@ -46,8 +66,9 @@ def of_rest(call, before, given):
 
 
 def of_begun(mode, old, new, event):
-    """A line begun with an open block and a setting at 0."""
+    """A line begun with an open block and a setting at 0, or another reserved byte."""
     if event[0] == "begun":
+        yield from (("begun with another", k, mode, event[-1]) for k in one_changed(old, new))
         yield from (("begun to 0", name, mode, event[-1]) for name in to_0(old, new))
 
 
@@ -71,3 +92,10 @@ def asked(scope):
         yield from (("rest", why, call, mode, 2) for why in ("n 16,385", "laid 0", "laid n + 7") for call in ("opened", "added", "closed"))
     yield from (("phase", why, 1) for why in ("announced", "collected", "above the count"))
     yield "impossible", 1, 1
+    for k in FIVE:
+        yield from (("FFh checked", k, kind, 0) for kind in ("variable", "fixed"))
+        yield from (("FFh checked", k, fault) for fault in (6, 8, *range(10, 14)))
+        yield from (("FFh opened", k, given) for given in (0, *range(10, 14)))
+        for mode in 8, 9:
+            yield "opened with another", k, mode, 20
+            yield "begun with another", k, mode, True

@@ -15,7 +15,7 @@ def state(book, code=None, aai=0, block=VARIABLE, flag=0, last=(1, 20), place=(1
 
 
 def settings_cases(book):
-    """Settings that 10 to 14 refuse, and some just inside; at this rate or for each of the reserved bytes."""
+    """Settings that 10 to 13 refuse at this rate, and some that they let pass: just inside, and with each of the reserved bytes."""
     rate = book.system // 2
     cases = [{"code": 0}, {"code": 2 - rate}, {"aai": 1}, {"aai": 2}, {"aai": 255}, {"block": 0xC0}, {"block": 0x81}, {"flag": 1}, {"flag": 2}, {"flag": 255}]
     cases += [{"changed": [(36 + k, v)]} for k in range(5) for v in (1, 128)]
@@ -88,7 +88,7 @@ def writers(book):
 
 
 def writer_settings(book):
-    """An unfinished block, and each byte of the settings changed when the next line is opened: 10 to 14 or 20."""
+    """An unfinished block, and each byte of the settings changed when the next line is opened: 10 to 13 or 20."""
     for system, mode in (0, 9), (3, 8):
         book.note(f"writer, system {system}, mode {mode}: the next line of an unfinished block, each setting changed")
         book.fresh(system, mode)

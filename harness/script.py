@@ -8,6 +8,7 @@ import courses
 import edges
 import lines
 import put
+import reserved
 from book import ROOM, SOURCE, TO, Book, whole
 from words import VARIABLE, Scope, block_head, byte_form, checksum, crc_of, data_form, header, opened_line, settings_by
 
@@ -193,7 +194,7 @@ def spoiled(book, flag, block, number, answer):
         11: [headed(number, aai=2), headed(number, aai=15)],
         12: [headed(number, block=0), headed(number, block=0x81), headed(number, block=0x38, flag=1)] + [headed(number, block=0x49)] * (code == 1),
         13: [headed(number, flag=2), headed(number, block=0x38, flag=2)],
-        14: [headed(number, reserved=1)],
+        14: [headed(number, reserved=1)],  # no longer given: the line is begun
         15: [{start: 0x3FF}, {start + 700: 0x600}] + [{length - 2: 0x309}] * flag + [{start + 9: 0x309}] * (block != VARIABLE),
         16: [{start + 9: 0x101}, {length - 1: other(0x2AA)}] * flag,
     }[answer]
@@ -209,7 +210,8 @@ def refusals(book):
         for answer in range(3, 17):
             book.new(system, mode)
             for edits in spoiled(book, flag, block, 21, answer):
-                book.note(f"answer {answer}, after a line that " + ("left a block open" if opened else "left none open"))
+                what = "a reserved byte, which is no fault" if answer == 14 else f"answer {answer}"
+                book.note(f"{what}, after a line that " + ("left a block open" if opened else "left none open"))
                 book.new(system, mode)
                 book.left_open(opened)
                 refused_line(book, flag, block, edits)
@@ -295,7 +297,7 @@ def script(scope):
     for part in drops, long_blocks, phases, mixes, fixed, fixed_later, jumps, refusals, unfit, impossible:
         part(book)
     # A new part stands behind all others, so that the steps and rows there are stay as they are.
-    for part in lines.PARTS + courses.PARTS + put.PARTS + edges.PARTS:
+    for part in lines.PARTS + courses.PARTS + put.PARTS + edges.PARTS + reserved.PARTS:
         part(book)
     return "".join(f"{step}\n" for step in book.steps)
 

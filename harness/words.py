@@ -194,7 +194,7 @@ def block_wrong(scope, payload, block, flag):
 
 
 def settings_fault(scope, system, values):
-    """The lowest of 10 to 14 that holds, or 0."""
+    """The lowest of 10 to 13 that holds, or 0. 14 is no longer given: 02, Item 5."""
     _, payload, _ = scope.systems[system]
     code, aai, block, flag = values[:4]
     if code != scope.code(system):
@@ -203,6 +203,4 @@ def settings_fault(scope, system, values):
         return 11
     if block_wrong(scope, payload, block, flag):
         return 12
-    if flag not in (0, 1):
-        return 13
-    return 14 if any(values[36:]) else 0
+    return 0 if flag in (0, 1) else 13

@@ -40,7 +40,8 @@ abbrev pub misplaced : ℕ → ℕ → ℕ → Place → Bool
 misplaced p block flag Shut = false
 misplaced p block flag (At q) = ltb (blocksEnd p block flag) q || (not (isVariable block) && offGrid block q)
 
--- Impossible, exactly: a last number not 1..N, or none with an open phase or begun line; with one, settings that 10-14 refuse;
+-- Impossible, exactly: a last number not 1..N, or none with an open phase or begun line; with one, settings that 10-13 refuse
+-- (02, Item 5: 14 is no longer given, so any reserved bytes are possible);
 -- a place beyond the area, or in a fixed line not where a place starts or the last ends; an open phase with fixed settings.
 -- The rest of the rule is of the phase alone, and of the unfinished block alone. `busy`: an open phase, or an unfinished block.
 abbrev pub impossibleAfter : ℕ → Last → Settings → Place → Bool → Bool

@@ -2,6 +2,7 @@
 -- line/proofs/Examples.
 -- Assumes nothing.
 use mathlib.Core.List.{List, [], _∷_, _++_}
+use mathlib.Core.Path.{_≡_, refl}
 use Prim.Native.Nat.{ℕ, _-_}
 use lib.Dec.{T}
 use lib.ListN.{length, take}
@@ -16,8 +17,8 @@ use Rattle.line.specs.Fixed.{table, fixedOf, placesOf, sizeOf, fillsAll, blockR
 use Rattle.line.specs.Settings.{settingsFaults}
 use Rattle.line.specs.Header.{numberWords, settingsBytes, settingsWords, summedWords, headerWords}
 use Rattle.line.specs.Layout.{areaLength, endWords, framed, areaOf, endOf}
-use Rattle.line.specs.Check.{legal, numberOf, settingsOf, timed, formed, crcStands, numbered, headFaults, areaFaults, payloadFaults, faults, fitsLength, lineFault}
-use Rattle.line.proofs.Examples.{Case, case, hold, set, plain, fixed, guarded, line, put}
+use Rattle.line.specs.Check.{legal, numberOf, settingsOf, timed, formed, crcStands, numbered, headFaults, areaFaults, payloadFaults, faults, fitsLength, lineFault, checkedOf}
+use Rattle.line.proofs.Examples.{Case, case, hold, set, plain, fixed, guarded, marked, line, put}
 
 -- with those two words last
 ending : ℕ → ℕ → List ℕ → List ℕ
@@ -32,6 +33,8 @@ area-answers =
     ∷ case (lineFault 0 9 (line 0 525 fixed)) 0 ∷ case (lineFault 0 8 (line 0 1 (set 1 0 0x37 0 0))) 0
     ∷ case (lineFault 0 8 (put 276 0x309 (line 0 1 plain))) 0
     ∷ case (lineFault 0 8 (ending 0x1c0 0x21a (line 0 20 guarded))) 0
+    -- a reserved byte that is not 0, in a fixed line; in a variable one: `marks-back`
+    ∷ case (lineFault 3 9 (line 3 1 (set 2 0 0x21 0 0xff))) 0
     -- 15: area word; 400h and above; 309h and 30Ah in variable lines only; a CRC word
     ∷ case (lineFault 0 8 (put 276 0x000 (line 0 1 plain))) 15 ∷ case (lineFault 0 8 (put 1715 0x600 (line 0 1 plain))) 15
     ∷ case (lineFault 0 8 (put 276 0x30a (line 0 1 fixed))) 15
@@ -42,3 +45,8 @@ area-answers =
 pub they-hold : T (hold area-answers)
 unfolding hold area-answers set plain fixed guarded line ending put pick isMode isSystem isByte isData byteWord dataWord checksum crcWords timingWord timingWords mathlib.Core.Bool.xor table fixedOf placesOf sizeOf fillsAll blockRefused settingsFaults numberWords settingsBytes settingsWords summedWords headerWords areaLength endWords framed areaOf endOf legal numberOf settingsOf timed formed crcStands numbered headFaults areaFaults payloadFaults faults fitsLength lineFault
 they-hold = tt
+
+-- five reserved bytes, none of them 0 and no two alike: they are read back with all that stands in the header
+pub marks-back : checkedOf 0 8 (line 0 1 marked) ≡ record { fault = 0; number = 1; settings = marked }
+unfolding set plain marked line pick isMode isSystem isByte isData byteWord dataWord checksum crcWords timingWord timingWords mathlib.Core.Bool.xor table fixedOf placesOf sizeOf fillsAll blockRefused settingsFaults numberWords settingsBytes settingsWords summedWords headerWords areaLength endWords framed areaOf endOf legal numberOf settingsOf timed formed crcStands numbered headFaults areaFaults payloadFaults faults fitsLength lineFault checkedOf
+marks-back = refl

@@ -7,11 +7,11 @@ use mathlib.Core.Logic.{_⊎_, inr}
 use mathlib.Core.List.{List, [], _∷_, _++_, map}
 use mathlib.Core.Path.{_≡_, refl, sym, ap, subst}
 use native.Mathlib.Omega.{arith}
-use lib.Dec.{eqb, leb}
+use lib.Dec.{eqb, leb, ltb}
 use lib.IntN.{pos}
 use lib.ListN.{length, getD}
 use Rattle.lists.specs.Tests.{Refusal, rising, holdsAt}
-use Rattle.lists.specs.Lists.{same, each}
+use Rattle.lists.specs.Lists.{same}
 use Rattle.lists.proofs.Tests.{true-false, or-false}
 use Rattle.line.specs.declared.settings.Settings.{Settings}
 use Rattle.line.specs.Systems.{systemOf, isSystem}
@@ -54,18 +54,18 @@ holds true e = refl
 holds false e = e
 
 -- ---- the line check of system 1 in 9-bit mode
--- 14: a reserved word is not 0, and no lower number's condition holds
-pub check-14 : (line : List ℕ) → each (eqb 0) (settingsOf line .reserved) ≡ false → ((n : ℕ) → n < 14 → holdsAt n (lineFaults 1 9 line) ≡ false)
-    → checkedOf 1 9 line .fault ≡ 14
+-- 13: the flag is above 1, and no lower number's condition holds
+pub check-13 : (line : List ℕ) → ltb 1 (settingsOf line .flag) ≡ true → ((n : ℕ) → n < 13 → holdsAt n (lineFaults 1 9 line) ≡ false)
+    → checkedOf 1 9 line .fault ≡ 13
 unfolding faults headFaults settingsFaults payloadFaults areaFaults
-check-14 line bad low = demand-1 .check 1 9 line .gives 14 (record { holds = holds-not _ bad; lowest = low }) .0
+check-13 line bad low = demand-1 .check 1 9 line .gives 13 (record { holds = ap (λ (b : Bool). b || false) bad; lowest = low }) .0
 
-pub check-14-only : (line : List ℕ) → checkedOf 1 9 line .fault ≡ 14
-    → (each (eqb 0) (settingsOf line .reserved) ≡ false) × ((holdsAt 13 (lineFaults 1 9 line) ≡ false) × (fitsLength 1 9 (length line) ≡ true))
+pub check-13-only : (line : List ℕ) → checkedOf 1 9 line .fault ≡ 13
+    → (ltb 1 (settingsOf line .flag) ≡ true) × ((holdsAt 12 (lineFaults 1 9 line) ≡ false) × (fitsLength 1 9 (length line) ≡ true))
 unfolding faults headFaults settingsFaults payloadFaults areaFaults
-check-14-only line is =
-    let x = demand-1 .check 1 9 line .only 14 (is, omega arith) in
-    (not-holds _ (x .holds), (x .lowest 13 (omega arith), stands _ (x .lowest 1 (omega arith))))
+check-13-only line is =
+    let x = demand-1 .check 1 9 line .only 13 (is, omega arith) in
+    (holds _ (x .holds), (x .lowest 12 (omega arith), stands _ (x .lowest 1 (omega arith))))
 
 -- 1: of a system that is not known, any words
 pub check-1 : (mode : ℕ) (line : List ℕ) → checkedOf 4 mode line .fault ≡ 1
@@ -83,14 +83,14 @@ pub check-unless : (line : List ℕ) → checkedOf 1 9 line .fault ≡ 0
 unfolding faults headFaults settingsFaults payloadFaults areaFaults
 check-unless line is = stands _ (demand-1 .check 1 9 line .unless is 16)
 
--- the numbers of 01's table, of which none is 2
+-- the numbers of 01's table, of which none is 2, and none 14 any more
 pub check-numbers : (line : List ℕ)
-    → (map (λ (r : Refusal). r .number) (lineFaults 1 9 line) ≡ 1 ∷ 3 ∷ 4 ∷ 5 ∷ 6 ∷ 7 ∷ 8 ∷ 9 ∷ 10 ∷ 11 ∷ 12 ∷ 13 ∷ 14 ∷ 15 ∷ 16 ∷ []) × (rising (lineFaults 1 9 line) ≡ true)
+    → (map (λ (r : Refusal). r .number) (lineFaults 1 9 line) ≡ 1 ∷ 3 ∷ 4 ∷ 5 ∷ 6 ∷ 7 ∷ 8 ∷ 9 ∷ 10 ∷ 11 ∷ 12 ∷ 13 ∷ 15 ∷ 16 ∷ []) × (rising (lineFaults 1 9 line) ≡ true)
 check-numbers line = let x = demand-1 .check 1 9 line in (x .numbers, x .rises)
 
 -- nothing is read of it
-pub check-leaves-14 : (line : List ℕ) → checkedOf 1 9 line .fault ≡ 14 → checkedOf 1 9 line ≡ record { fault = 14; number = 0; settings = noSettings }
-check-leaves-14 line is = demand-1 .check-leaves 1 9 line 14 is (omega arith)
+pub check-leaves-13 : (line : List ℕ) → checkedOf 1 9 line .fault ≡ 13 → checkedOf 1 9 line ≡ record { fault = 13; number = 0; settings = noSettings }
+check-leaves-13 line is = demand-1 .check-leaves 1 9 line 13 is (omega arith)
 
 -- ---- the writer of system 1 in 9-bit mode
 -- after line 7, with 50 words laid of a block of type 5 with 100 values
@@ -130,7 +130,7 @@ unfolding settingsFaults openBlocked
 open-unless s f v n t line is = both-so (sameSettings t s) (eqb n (nextNumber 625 7)) (demand-1 .open-line (halfway s Shut) f v n t line .unless is 20)
 
 pub open-numbers : (w : Writer) (f v : Bool) (n : ℕ) (t : Settings) (line : List ℕ)
-    → map (λ (r : Refusal). r .number) (openFaults w n t (length line)) ≡ 1 ∷ 2 ∷ 9 ∷ 10 ∷ 11 ∷ 12 ∷ 13 ∷ 14 ∷ 20 ∷ []
+    → map (λ (r : Refusal). r .number) (openFaults w n t (length line)) ≡ 1 ∷ 2 ∷ 9 ∷ 10 ∷ 11 ∷ 12 ∷ 13 ∷ 20 ∷ []
 open-numbers w f v n t line = demand-1 .open-line w f v n t line .numbers
 
 pub open-leaves-20 : (s : Settings) (f v : Bool) (t : Settings) (line : List ℕ) → answerNumbers (opening (halfway s (At 3)) f v 8 t line .answer) ≡ 20 ∷ []
@@ -224,11 +224,11 @@ read-16 s line room bad low = demand-1 .read (collecting s Shut) line room .give
 
 pub read-16-only : (s : Settings) (line room : List ℕ) → eventNumbers (reading (collecting s Shut) line room .told .event) ≡ pos 0 ∷ pos 16 ∷ pos 1 ∷ []
     → (same (endOf (systemOf 1) (settingsOf line .flag) line) (endWords (settingsOf line .flag) (areaOf (systemOf 1) (settingsOf line .flag) line)) ≡ false)
-    × ((impossibleIn 16384 (collecting s Shut) ≡ false) × (each (eqb 0) (settingsOf line .reserved) ≡ true))
+    × ((impossibleIn 16384 (collecting s Shut) ≡ false) × (ltb 1 (settingsOf line .flag) ≡ false))
 unfolding faults headFaults settingsFaults payloadFaults areaFaults
 read-16-only s line room is =
     let x = demand-1 .read (collecting s Shut) line room .only 16 is in
-    (not-holds _ (x .holds), (or-false _ _ (x .lowest 2 (omega arith)) .0, stands _ (x .lowest 14 (omega arith))))
+    (not-holds _ (x .holds), (or-false _ _ (x .lowest 2 (omega arith)) .0, or-false _ _ (x .lowest 13 (omega arith)) .0))
 
 -- served: with no line begun, begun; else a block, a drop or the line's end
 pub read-serves-shut : (s : Settings) (line room : List ℕ)
@@ -251,7 +251,7 @@ read-unless-at s line room is = or-false _ _ (demand-1 .read (collecting s (At 3
 
 pub read-numbers : (s : Settings) (line room : List ℕ)
     → (map (λ (r : Refusal). r .number) (readFaultsIn 16384 (collecting s Shut) (length line) (length room) ++ faults (systemOf 1) 9 line)
-    ≡ 1 ∷ 2 ∷ 3 ∷ 4 ∷ 5 ∷ 6 ∷ 7 ∷ 8 ∷ 9 ∷ 10 ∷ 11 ∷ 12 ∷ 13 ∷ 14 ∷ 15 ∷ 16 ∷ [])
+    ≡ 1 ∷ 2 ∷ 3 ∷ 4 ∷ 5 ∷ 6 ∷ 7 ∷ 8 ∷ 9 ∷ 10 ∷ 11 ∷ 12 ∷ 13 ∷ 15 ∷ 16 ∷ [])
     × (map (λ (r : Refusal). r .number) (readFaultsIn 16384 (collecting s (At 3)) (length line) (length room)) ≡ 1 ∷ 2 ∷ [])
 read-numbers s line room = (demand-1 .read (collecting s Shut) line room .numbers, demand-1 .read (collecting s (At 3)) line room .numbers)
 

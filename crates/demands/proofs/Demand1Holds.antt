@@ -92,7 +92,7 @@ nothing-read zero k line e h = absurd (omega (arith, e, h))
 nothing-read (suc n) k line e h = ap faultyWith e
 
 checks : (system mode : ℕ) (line : List ℕ)
-    → Numbered (lineFaults system mode line) (1 ∷ 3 ∷ 4 ∷ 5 ∷ 6 ∷ 7 ∷ 8 ∷ 9 ∷ 10 ∷ 11 ∷ 12 ∷ 13 ∷ 14 ∷ 15 ∷ 16 ∷ []) (λ (k : ℕ). (checkedOf system mode line .fault ≡ k) × (1 ≤ k)) (checkedOf system mode line .fault ≡ 0)
+    → Numbered (lineFaults system mode line) (1 ∷ 3 ∷ 4 ∷ 5 ∷ 6 ∷ 7 ∷ 8 ∷ 9 ∷ 10 ∷ 11 ∷ 12 ∷ 13 ∷ 15 ∷ 16 ∷ []) (λ (k : ℕ). (checkedOf system mode line .fault ≡ k) × (1 ≤ k)) (checkedOf system mode line .fault ≡ 0)
 unfolding faults headFaults settingsFaults payloadFaults areaFaults lineFault checkedOf
 checks system mode line =
     let n = lineFault system mode line in
@@ -128,7 +128,7 @@ answered rs ns x all up e =
     (λ s. by-none (lowestOf rs) (sym e ∙ s))
 
 opens : (w : Writer) (f v : Bool) (n : ℕ) (t : Settings) (line : List ℕ)
-    → Numbered (openFaults w n t (length line)) (1 ∷ 2 ∷ 9 ∷ 10 ∷ 11 ∷ 12 ∷ 13 ∷ 14 ∷ 20 ∷ []) (λ (k : ℕ). answerNumbers (opening w f v n t line .answer) ≡ k ∷ [])
+    → Numbered (openFaults w n t (length line)) (1 ∷ 2 ∷ 9 ∷ 10 ∷ 11 ∷ 12 ∷ 13 ∷ 20 ∷ []) (λ (k : ℕ). answerNumbers (opening w f v n t line .answer) ≡ k ∷ [])
     (answerNumbers (opening w f v n t line .answer) ≡ [])
 unfolding openFault settingsFaults
 opens w f v n t line = answered (openFaults w n t (length line)) _ _ refl (open-rising w n t (length line)) (open-numbers w f v n t line)

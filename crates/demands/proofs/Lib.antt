@@ -42,5 +42,6 @@ pub mod PCases
 pub mod DemandSamples
 pub mod NumberSamples
 pub mod Demand1Cited
+pub mod Reserved
 pub mod DemandCited
 pub mod AreaAnswers

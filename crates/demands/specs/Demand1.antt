@@ -13,7 +13,8 @@
 --    9  line number not 1..N, or B7-B2 of its second word not 0         `numbered`; of the writer's number the first part
 --    10 / 11  code not the system's / AAI                               in `settingsFaults`
 --    12 block type not listed, none at this rate, or refused with 01h   `blockRefused`
---    13 / 14  flag / reserved word                                      in `settingsFaults`
+--    13 flag                                                            in `settingsFaults`
+--    14 reserved word: no longer given, by 02, Item 5; no list below has it
 --    15 area word not data form (8-bit: byte form) ..                   `legal`, in `areaFaults`
 --    16 payload CRC                                                     in `areaFaults`
 --    17 value above 255 (8-bit) or 511                                  `valued`
@@ -68,13 +69,13 @@ pub record Numbered (rs : List Refusal) (ns : List ℕ) (given : ℕ → Type 0)
   pub unless : served → NoneHolds rs
 
 -- ---- reading
--- 1 and 2; with no line begun 3 to 16 as well. Later calls don't check words again.
+-- 1 and 2; with no line begun 3 to 13, 15 and 16 as well. Later calls don't check words again.
 abbrev pub whereShut : Place → List Refusal → List Refusal
 whereShut Shut rs = rs
 whereShut (At q) rs = []
 
 abbrev pub from3to16 : List ℕ
-from3to16 = 3 ∷ 4 ∷ 5 ∷ 6 ∷ 7 ∷ 8 ∷ 9 ∷ 10 ∷ 11 ∷ 12 ∷ 13 ∷ 14 ∷ 15 ∷ 16 ∷ []
+from3to16 = 3 ∷ 4 ∷ 5 ∷ 6 ∷ 7 ∷ 8 ∷ 9 ∷ 10 ∷ 11 ∷ 12 ∷ 13 ∷ 15 ∷ 16 ∷ []
 
 abbrev pub readAnswers : Place → List ℕ
 readAnswers Shut = 1 ∷ 2 ∷ from3to16
@@ -105,13 +106,13 @@ pub record Forgets (st st′ : Reader) : Type 0 where
   pub same-mode : st′ .mode ≡ st .mode
 
 pub record Demand1 : Type 0 where
-  -- the line check: 1, 3 to 16; nothing is read of a line with a fault
+  -- the line check: 1, 3 to 13, 15, 16; nothing is read of a line with a fault
   pub check : (system mode : ℕ) (line : List ℕ)
       → Numbered (lineFaults system mode line) (1 ∷ from3to16) (λ (k : ℕ). (checkedOf system mode line .fault ≡ k) × (1 ≤ k)) (checkedOf system mode line .fault ≡ 0)
   pub check-leaves : (system mode : ℕ) (line : List ℕ) (k : ℕ) → checkedOf system mode line .fault ≡ k → 1 ≤ k → checkedOf system mode line ≡ faultyWith k
-  -- opening: 1, 2, 9-14, 20
+  -- opening: 1, 2, 9-13, 20
   pub open-line : (w : Writer) (f v : Bool) (n : ℕ) (t : Settings) (line : List ℕ)
-      → Numbered (openFaults w n t (length line)) (1 ∷ 2 ∷ 9 ∷ 10 ∷ 11 ∷ 12 ∷ 13 ∷ 14 ∷ 20 ∷ []) (λ (k : ℕ). answerNumbers (opening w f v n t line .answer) ≡ k ∷ [])
+      → Numbered (openFaults w n t (length line)) (1 ∷ 2 ∷ 9 ∷ 10 ∷ 11 ∷ 12 ∷ 13 ∷ 20 ∷ []) (λ (k : ℕ). answerNumbers (opening w f v n t line .answer) ≡ k ∷ [])
       (answerNumbers (opening w f v n t line .answer) ≡ [])
   -- adding: 1, 2, 17-20; served it answers 0, and then 1 (finished) or 0 (unfinished)
   pub add-block : (w : Writer) (line : List ℕ) (kind : ℕ) (vs : List ℕ)
@@ -126,7 +127,7 @@ pub record Demand1 : Type 0 where
   pub add-leaves : (w : Writer) (line : List ℕ) (kind : ℕ) (vs : List ℕ) (k : ℕ) → laidNumbers (adding w line kind vs .answer) ≡ k ∷ []
       → (adding w line kind vs .state ≡ w) × (adding w line kind vs .line ≡ line)
   pub close-leaves : (w : Writer) (line : List ℕ) (k : ℕ) → answerNumbers (closing w line .answer) ≡ k ∷ [] → (closing w line .state ≡ w) × (closing w line .line ≡ line)
-  -- reading: 1-16
+  -- reading: 1-13, 15, 16
   pub read : (st : Reader) (line room : List ℕ)
       → Numbered (readRefusals st line room) (readAnswers (st .place)) (ReadRefused st line room) (ReadServed st line room)
   -- 1 and 2 leave everything; refused with 3-16: phase idle, last number none, settings kept, and the room as it was

@@ -83,7 +83,7 @@ pub record Demand2 : Type 0 where
       → Written w f v n t lent w′ line ps → line ≡ lineWords (systemOf (w .system)) f v n t [] (areaFrom (systemOf (w .system) .payload) (t .flag) ps)
   -- and such lines can be had: from any known system and mode, any F and V, ..
   pub writable : (system mode : ℕ) (f v : Bool) (n : ℕ) (t : Settings) (bs : List Block) → isSystem system ≡ true → isMode mode ≡ true
-      -- .. any number 1..N, any settings that 10-14 let pass, ..
+      -- .. any number 1..N, any settings that 10-13 let pass, ..
       → 1 ≤ n → n ≤ systemOf system .lines → Held t → settingsFault system t ≡ 0
       -- .. and any blocks that 17 and 18 let pass: calls on a fresh writer whose finished blocks are exactly these
       → All (Passes mode t) bs → Writes system mode f v n t bs

@@ -1,4 +1,4 @@
--- The answers 1 and 3 to 14 of the line check are reached on whole lines of the four systems, in one checked list with one claim. Those for which
+-- The answers 1 and 3 to 13 of the line check are reached on whole lines of the four systems, in one checked list with one claim. Those for which
 -- the whole area is looked at, none, 15 and 16, are computed in demands/proofs/AreaAnswers, where nothing else has to wait for them. The
 -- reader's answer 2 and the writer's answers are not the line check's. 01's slips are listed in reader/proofs/Slips.
 -- Assumes nothing.
@@ -21,6 +21,7 @@ use Rattle.line.specs.Settings.{settingsFaults}
 use Rattle.line.specs.Header.{numberWords, settingsBytes, settingsWords, summedWords, headerWords}
 use Rattle.line.specs.Layout.{areaLength, endWords, framed, areaOf, endOf}
 use Rattle.line.specs.Check.{legal, numberOf, settingsOf, timed, formed, crcStands, numbered, headFaults, areaFaults, payloadFaults, faults, fitsLength, lineFault}
+use Rattle.line.proofs.SettingsLaws.{withFive}
 
 -- settings: code, AAI, block type, flag and the last reserved byte
 unfoldable pub set : ℕ → ℕ → ℕ → ℕ → ℕ → Settings
@@ -43,6 +44,11 @@ fixed = set 1 0 0x21 0 0
 
 unfoldable pub guarded : Settings
 guarded = set 1 0 0xc1 1 0
+
+-- with five reserved bytes that are not 0
+unfoldable pub marked : Settings
+unfolding plain set
+marked = withFive plain (0x01 ∷ 0x02 ∷ 0x03 ∷ 0x04 ∷ 0xff ∷ [])
 
 -- a line of that number and those settings, its payload all filler
 unfoldable pub line : ℕ → ℕ → Settings → List ℕ
@@ -84,6 +90,10 @@ answers =
     ∷ case (lineFault 0 8 (put 56 0x2ff (line 0 1 plain))) 6
     ∷ case (lineFault 0 8 (resum (put 12 0x2ff (line 0 1 plain)))) 7
     ∷ case (lineFault 0 8 (resum (put 55 0x2ff (line 0 1 plain)))) 8
+    -- the same of the five reserved words: 5 out of byte form; else 6, and 8 where the checksum is right
+    ∷ case (lineFault 0 8 (put 49 0x100 (line 0 1 marked))) 5 ∷ case (lineFault 0 8 (put 53 0x1ff (line 0 1 marked))) 5
+    ∷ case (lineFault 0 8 (put 51 (byteWord 0xff) (line 0 1 marked))) 6
+    ∷ case (lineFault 0 8 (resum (put 51 (byteWord 0xff) (line 0 1 marked)))) 8
     -- 9: not 1..N; B7-B2 of the second word not 0
     ∷ case (lineFault 0 8 (line 0 0 plain)) 9 ∷ case (lineFault 0 8 (line 0 526 plain)) 9 ∷ case (lineFault 1 8 (line 1 626 plain)) 9
     ∷ case (lineFault 0 8 (renumber (byteWord 4) (line 0 1 plain))) 9
@@ -96,10 +106,12 @@ answers =
     ∷ case (lineFault 0 8 (line 0 1 (set 1 0 0x37 1 0))) 12 ∷ case (lineFault 1 8 (line 1 1 (set 1 0 0x78 1 0))) 12
     ∷ case (lineFault 2 8 (line 2 1 (set 2 0 0x38 1 0))) 12
     ∷ case (lineFault 0 8 (line 0 1 (set 1 0 0x38 2 0))) 13
-    -- 13, 14
+    -- 13
     ∷ case (lineFault 0 8 (line 0 1 (set 1 0 0xc1 2 0))) 13
-    ∷ case (lineFault 0 8 (line 0 1 (set 1 0 0xc1 0 1))) 14 ∷ []
+    -- 10 to 13 with a reserved byte that is not 0: the same
+    ∷ case (lineFault 0 8 (line 0 1 (set 2 0 0xc1 0 0xff))) 10 ∷ case (lineFault 0 8 (line 0 1 (set 1 2 0xc1 0 0xff))) 11
+    ∷ case (lineFault 0 8 (line 0 1 (set 1 0 0x81 0 0xff))) 12 ∷ case (lineFault 0 8 (line 0 1 (set 1 0 0xc1 2 0xff))) 13 ∷ []
 
 pub they-hold : T (hold answers)
-unfolding hold answers set plain line put resum renumber pick isMode isSystem isByte isData byteWord dataWord checksum crcWords timingWord timingWords mathlib.Core.Bool.xor table fixedOf placesOf sizeOf fillsAll blockRefused settingsFaults numberWords settingsBytes settingsWords summedWords headerWords areaLength endWords framed areaOf endOf legal numberOf settingsOf timed formed crcStands numbered headFaults areaFaults payloadFaults faults fitsLength lineFault
+unfolding hold answers set plain marked line put resum renumber pick isMode isSystem isByte isData byteWord dataWord checksum crcWords timingWord timingWords mathlib.Core.Bool.xor table fixedOf placesOf sizeOf fillsAll blockRefused settingsFaults numberWords settingsBytes settingsWords summedWords headerWords areaLength endWords framed areaOf endOf legal numberOf settingsOf timed formed crcStands numbered headFaults areaFaults payloadFaults faults fitsLength lineFault
 they-hold = tt

@@ -153,6 +153,25 @@ module _ (s : Settings) (h : Held s) where
       (each-append small (s .source) _ (h .from-bytes)
       (ap₂ _&&_ (lt-ltb (s .block) 256 (h .block-byte)) (ap₂ _&&_ (lt-ltb (s .flag) 256 (h .flag-byte)) (h .five-bytes)))))
 
+  -- the last five of the 40 bytes
+  five-bytes-last : part 35 5 (settingsBytes s) ≡ s .reserved
+  unfolding settingsBytes
+  five-bytes-last =
+      let rest : List ℕ = s .block ∷ s .flag ∷ s .reserved in
+      let two : length (s .destination ++ s .source) ≡ 32 = length-append (s .destination) (s .source) ∙ ap₂ _+_ (h .to) (h .from) in
+      let past : drop 32 (s .destination ++ (s .source ++ rest)) ≡ rest =
+      ap (drop 32) (sym (append-assoc (s .destination) (s .source) rest)) ∙ drop-at (s .destination ++ s .source) rest 32 two in
+      ap (take 5) (sym (drop-drop 2 32 (s .destination ++ (s .source ++ rest))) ∙ ap (drop 2) past) ∙ take-all 5 (s .reserved) (omega (arith, h .five))
+
+  -- in a header they stand at 49-53, in byte form
+  pub five-laid : (line : List ℕ) (n : ℕ) → 57 ≤ length line → part 4 53 line ≡ headerWords n s → part 49 5 line ≡ map byteWord (s .reserved)
+  unfolding settingsWords
+  five-laid line n long words =
+      sym (part-part 14 40 35 5 line (lit≤ tt))
+      ∙ ap (part 35 5) (parted line n s long forty words .settings)
+      ∙ sym (map-part byteWord 35 5 (settingsBytes s))
+      ∙ ap (map byteWord) five-bytes-last
+
   bytes-settings : s .code < 16 → s .aai < 16 → settingsFrom (settingsBytes s) ≡ s
   unfolding settingsBytes
   bytes-settings hc ha =
@@ -171,8 +190,7 @@ module _ (s : Settings) (h : Held s) where
       ap (λ (x : List ℕ). getD x 32 0) group ∙ getD-at (s .destination ++ s .source) (s .block) (s .flag ∷ s .reserved) 0 32 two in
       let flag : getD (s .destination ++ (s .source ++ rest)) 33 0 ≡ s .flag =
       sym (getD-drop 32 (s .destination ++ (s .source ++ rest)) 1 0) ∙ ap (λ (x : List ℕ). getD x 1 0) past in
-      let five : take 5 (drop 34 (s .destination ++ (s .source ++ rest))) ≡ s .reserved =
-      ap (take 5) (sym (drop-drop 2 32 (s .destination ++ (s .source ++ rest))) ∙ ap (drop 2) past) ∙ take-all 5 (s .reserved) (omega (arith, h .five)) in
+      let five : take 5 (drop 34 (s .destination ++ (s .source ++ rest))) ≡ s .reserved = five-bytes-last in
       simp (code, aai, to, from, block, flag, five)
 
 -- ---- read, and written again
@@ -199,6 +217,19 @@ module _ (line : List ℕ) (long : 57 ≤ length line) where
       let byte : getD b 0 0 < 256 =
       subst (λ (x : ℕ). x < 256) (sym (List·getD-map low (part 14 40 line) 0 0)) (mod-lt (getD (part 14 40 line) 0 0) (lit< tt)) in
       sym (bytes-back (part 14 40 line) form) ∙ ap (map byteWord) (sym (ap settingsBytes (from-bytes line) ∙ settings-bytes b len byte))
+
+  -- the five reserved bytes that are read, in byte form, are the words that stand there
+  pub five-again : (s : System) → Clear (headFaults s line) → map byteWord (settingsOf line .reserved) ≡ part 49 5 line
+  unfolding headFaults formed settingsOf
+  five-again s k =
+      let ws = part 14 40 line in
+      let form = both-true (each isByte (part 10 2 line)) _ (not-false _ (k .1 .1 .0)) in
+      let form′ = both-true (each isByte ws) _ (both-true (each isData (part 12 2 line)) _ (form .1) .1) in
+      ap (λ (l : List ℕ). map byteWord (map low l)) (sym (part-part 14 40 35 5 line (lit≤ tt)))
+      ∙ ap (map byteWord) (map-part low 35 5 ws)
+      ∙ map-part byteWord 35 5 (map low ws)
+      ∙ ap (part 35 5) (bytes-back ws (form′ .0))
+      ∙ part-part 14 40 35 5 line (lit≤ tt)
 
   -- a head in which 3 to 9 find no fault
   pub head-again : (s : System) → Clear (headFaults s line) → part 4 53 line ≡ headerWords (numberOf line) (settingsOf line)

@@ -3,7 +3,7 @@
 -- Assumes nothing.
 use mathlib.Core.Path.{_≡_, refl, sym, ap, ap₂, _∙_, subst}
 use mathlib.Core.Bool.{Bool, true, false, _&&_, not}
-use mathlib.Core.List.{List, [], _++_}
+use mathlib.Core.List.{List, [], _++_, map}
 use Prim.Native.Nat.{ℕ, _+_, _-_, _≤_}
 use native.Mathlib.Nat.{add-zero}
 use native.Mathlib.Omega.{arith}
@@ -15,30 +15,38 @@ use Rattle.lists.specs.Tests.{pick}
 use Rattle.lists.specs.Lists.{part, each}
 use Rattle.lists.proofs.Refusals.{Clear, lowest-clear, clear-lowest, clear-append, clear-split}
 use Rattle.lists.proofs.Lists.{part-front, part-behind, drop-behind, eq-same}
-use Rattle.words.specs.Forms.{isData}
+use Rattle.words.specs.Forms.{byteWord, isData}
 use Rattle.words.specs.Modes.{isMode}
 use Rattle.words.specs.Crc.{crcWords}
 use Rattle.line.specs.declared.settings.Settings.{Settings}
+use Rattle.line.specs.declared.systems.System.{System}
 use Rattle.line.specs.Systems.{systemOf, isSystem}
 use Rattle.line.specs.Timing.{timingWords}
 use Rattle.line.specs.Fixed.{isVariable}
 use Rattle.line.specs.Settings.{Held, settingsFaults, settingsFault}
 use Rattle.line.specs.Header.{headerWords}
-use Rattle.line.specs.Layout.{gapAt, savAt, payloadAt, gapAfter, areaLength, endWords, lineWords, areaOf, endOf}
+use Rattle.line.specs.Layout.{gapAt, savAt, payloadAt, gapAfter, areaLength, endWords, framed, lineWords, areaOf, endOf}
 use Rattle.line.specs.Check.{legal, numberOf, settingsOf, headFaults, areaFaults, payloadFaults, faults, fitsLength, fits, lineFaults, lineFault, checkedFrom, checkedOf}
 use Rattle.line.proofs.SystemLaws.{Sound, sound, fitting}
 use Rattle.line.proofs.CheckLaws.{settings-rising, check-rising}
 use Rattle.line.proofs.GapLaws.{GapHolds, gap-long}
-use Rattle.line.proofs.Headers.{head-again, header-length, crc-formed, ReadBack, head-back}
+use Rattle.line.proofs.Headers.{head-again, five-again, five-laid, header-length, crc-formed, ReadBack, head-back}
+
+-- of an accepted line: it has a whole head, in which 3 to 9 find no fault
+head-of : (system mode : ℕ) (line : List ℕ) → lineFault system mode line ≡ 0 → (57 ≤ length line) × Clear (headFaults (systemOf system) line)
+unfolding lineFault faults
+head-of system mode line e =
+    let c = lowest-clear (lineFaults system mode line) (check-rising system mode line) e in
+    let k = fitting system mode line (not-false _ (c .0)) in
+    (omega (arith, k .row .room, k .long), clear-split (headFaults (systemOf system) line) _ (c .1) .0)
 
 -- demand 2's last part: an accepted header written again gives the same 53 words
 pub written-again : (system mode : ℕ) (line : List ℕ) → lineFault system mode line ≡ 0 → part 4 53 line ≡ headerWords (numberOf line) (settingsOf line)
-unfolding lineFault faults
-written-again system mode line e =
-    let c = lowest-clear (lineFaults system mode line) (check-rising system mode line) e in
-    let k = fitting system mode line (not-false _ (c .0)) in
-    let long : 57 ≤ length line = omega (arith, k .row .room, k .long) in
-    head-again line long (systemOf system) (clear-split (headFaults (systemOf system) line) _ (c .1) .0)
+written-again system mode line e = let k = head-of system mode line e in head-again line (k .0) (systemOf system) (k .1)
+
+-- and its five reserved words are the byte form of the five bytes that are read, whatever these are
+pub five-stand : (system mode : ℕ) (line : List ℕ) → lineFault system mode line ≡ 0 → map byteWord (settingsOf line .reserved) ≡ part 49 5 line
+five-stand system mode line e = let k = head-of system mode line e in five-again line (k .0) (systemOf system) (k .1)
 
 -- ---- six pieces, one after another
 pub record Six : Type 0 where
@@ -95,6 +103,19 @@ pub four : (f v h : Bool) → length (timingWords f v h) ≡ 4
 unfolding timingWords
 four f v h = refl
 
+-- a line with any payload has the five reserved bytes that it was given at 49-53, in byte form
+pub five-framed : (row : System) (f v : Bool) (n : ℕ) (s : Settings) (laid payload : List ℕ) → Held s
+    → part 49 5 (framed row f v n s laid payload) ≡ map byteWord (s .reserved)
+unfolding framed
+five-framed row f v n s laid payload h =
+    let behind : List ℕ = gapAfter row laid ++ (timingWords f v false ++ payload) in
+    let a = length-append (timingWords f v true) (headerWords n s ++ behind) in
+    let b = length-append (headerWords n s) behind in
+    let four-long = four f v true in
+    let long = header-length s h n in
+    five-laid s h (framed row f v n s laid payload) n (omega (arith, a, b, four-long, long))
+    (part-behind (timingWords f v true) (headerWords n s ++ behind) 4 0 53 four-long ∙ part-front (headerWords n s) behind 53 long)
+
 -- ---- what stands behind the area: it fills the payload, and is in data form
 end-by : (p : ℕ) (area : List ℕ) → 2 ≤ p → (b : Bool) → pick b (p - 2) p + length (pick b (crcWords area) []) ≡ p
 unfolding pick crcWords
@@ -115,7 +136,7 @@ unfolding endWords
 end-formed flag area = formed-by area (eqb flag 1)
 
 -- ---- a line built by the definition
--- the words from which it is built: a number 1..N, settings that 10 to 14 let pass, and an area of its length of legal words
+-- the words from which it is built: a number 1..N, settings that 10 to 13 let pass, and an area of its length of legal words
 pub record Buildable (system mode n : ℕ) (s : Settings) (area : List ℕ) : Type 0 where
   pub known : isSystem system ≡ true
   pub moded : isMode mode ≡ true

@@ -1,4 +1,4 @@
--- The line check: answers 1 and 3 to 16, and what is read of a line without fault.
+-- The line check: answers 1, 3 to 13, 15 and 16, and what is read of a line without fault.
 -- Assumes nothing.
 use Prim.Native.Nat.{ℕ, zero, suc, _+_, _*_, _/_, _%_}
 use mathlib.Core.Bool.{Bool, true, false, _&&_, _||_, not}
@@ -90,7 +90,7 @@ unfoldable pub payloadFaults : System → ℕ → ℕ → ℕ → List ℕ → L
 payloadFaults s mode block flag line = areaFaults mode (isVariable block) flag (areaOf s flag line) (endOf s flag line)
 
 -- ---- the lowest number whose condition holds
--- 3 to 9, 10 to 14, 15 and 16: of any system, by its L, P, N and code
+-- 3 to 9, 10 to 13, 15 and 16: of any system, by its L, P, N and code
 unfoldable pub faults : System → ℕ → List ℕ → List Refusal
 faults row mode line =
     let t = settingsOf line in
@@ -103,7 +103,7 @@ fitsLength system mode n = isSystem system && (isMode mode && eqb n (systemOf sy
 abbrev pub fits : ℕ → ℕ → List ℕ → Bool
 fits system mode line = fitsLength system mode (length line)
 
--- 1, then 3 to 16
+-- 1, then 3 to 16, among which 14 has no condition
 abbrev pub lineFaults : ℕ → ℕ → List ℕ → List Refusal
 lineFaults system mode line = when 1 (not (fits system mode line)) ∷ faults (systemOf system) mode line
 

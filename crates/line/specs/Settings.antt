@@ -1,4 +1,4 @@
--- The settings, kept as byte values, and their faults 10 to 14.
+-- The settings, kept as byte values, and their faults 10 to 13.
 -- Assumes nothing.
 use Prim.Native.Nat.{ℕ, _<_}
 use mathlib.Core.Bool.{Bool, true, _&&_, not}
@@ -31,17 +31,17 @@ pub record Held (s : Settings) : Type 0 where
   pub block-byte : s .block < 256
   pub flag-byte : s .flag < 256
 
--- 10: code not the system's; 11: AAI, which is 0 or 1; 12: block type; 13: flag, which is 00h or 01h; 14: a reserved word, each 0
+-- 10: code not the system's; 11: AAI, which is 0 or 1; 12: block type; 13: flag, which is 00h or 01h. The five reserved bytes are handed through,
+-- whatever they are: 14 is no longer given (02, Item 5), and no other refusal takes its number.
 unfoldable pub settingsFaults : System → Settings → List Refusal
 settingsFaults row s =
     when 10 (not (eqb (s .code) (row .code)))
     ∷ when 11 (ltb 1 (s .aai))
     ∷ when 12 (blockRefused (row .payload) (s .block) (s .flag))
     ∷ when 13 (ltb 1 (s .flag))
-    ∷ when 14 (not (each (eqb 0) (s .reserved)))
     ∷ []
 
--- the lowest of 10 to 14 that holds, or 0
+-- the lowest of 10 to 13 that holds, or 0
 unfoldable pub settingsFault : ℕ → Settings → ℕ
 settingsFault system s = lowestOf (settingsFaults (systemOf system) s)
 

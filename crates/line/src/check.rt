@@ -1,5 +1,5 @@
-// The line check: for any system number, any mode number and any words, the lowest of 1 and 3 to 16 whose condition holds,
-// or no fault, with the number and the settings that stand in the line.
+// The line check: for any system number, any mode number and any words, the lowest of 1 and 3 to 16 whose condition holds
+// (14 has none), or no fault, with the number and the settings that stand in the line.
 use crate::area;
 use crate::head;
 use crate::settings;

@@ -3,8 +3,6 @@ use crate::fixed;
 use crate::fixed::Fixed;
 use crate::systems;
 ghost use mathlib.Core.Path.{_≡_};
-ghost use lib.Dec.{eqb};
-ghost use Rattle.lists.specs.Lists.{each};
 ghost use Rattle.line.specs.Fixed.{fixedOf};
 ghost use Rattle.line.specs.Settings.{noSettings, Held, settingsFault, sameSettings};
 
@@ -57,28 +55,7 @@ pub fn same_settings(a: Settings, b: Settings) -> bool
         & ((a.aai == b.aai) & (to & (from & ((a.block == b.block) & ((a.flag == b.flag) & five)))))
 }
 
-// Each byte is 0.
-fn all_zero(s: &[u8]) -> bool
-    ensures { λ r. ⌜ r ≡ each (eqb 0) (now (s .entry)) ⌝ }
-{
-    let mut ok = true;
-    let mut i = 0;
-    while i < s.len() {
-        ok = ok & (0 == s[i]);
-        i += 1;
-    }
-    ok
-}
-
-// Each reserved word is 0.
-fn is_unreserved(settings: Settings) -> bool
-    ensures { λ r. ⌜ r ≡ each (eqb 0) (settings .reserved) ⌝ }
-{
-    let reserved = settings.reserved;
-    all_zero(&reserved)
-}
-
-// The lowest of 10 to 14 that holds of the settings, or 0; by the table's row of the block type.
+// The lowest of 10 to 13 that holds of the settings, or 0; by the table's row of the block type. The reserved bytes are not asked.
 fn fault_by(system: u8, row: Fixed, settings: Settings) -> u8
     requires { ⌜ row ≡ fixedOf (settings .block) ⌝ }
     ensures { λ r. ⌜ r ≡ settingsFault system settings ⌝ }
@@ -93,13 +70,10 @@ fn fault_by(system: u8, row: Fixed, settings: Settings) -> u8
     if fixed::block_refused(s.payload, row, settings.block, settings.flag) {
         return 12;
     }
-    if 1 < settings.flag {
-        return 13;
-    }
-    lists::or_else(!is_unreserved(settings), 14, 0)
+    lists::or_else(1 < settings.flag, 13, 0)
 }
 
-// What is found of settings: the lowest of 10 to 14 that holds, or 0, and the table's row of the block type.
+// What is found of settings: the lowest of 10 to 13 that holds, or 0, and the table's row of the block type.
 pub struct Found {
     pub fault: u8,
     pub row: Fixed,
@@ -117,7 +91,7 @@ pub fn find_fault(system: u8, settings: Settings) -> Found
     }
 }
 
-// The lowest of 10 to 14 that holds of the settings, or 0.
+// The lowest of 10 to 13 that holds of the settings, or 0.
 pub fn settings_fault(system: u8, settings: Settings) -> u8
     ensures { λ r. ⌜ r ≡ settingsFault system settings ⌝ }
 {

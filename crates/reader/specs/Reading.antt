@@ -1,4 +1,4 @@
--- A reading call: answers 1-16, what is reported, and what stands in the state and the room afterwards.
+-- A reading call: answers 1-13, 15 and 16, what is reported, and what stands in the state and the room afterwards.
 -- Assumes nothing.
 use Prim.Native.Nat.{ℕ, _+_, _-_, _/_}
 use mathlib.Core.Bool.{Bool, false, _&&_, not}

@@ -1,4 +1,4 @@
--- Opening a line: answers 1, 2, 9-14, 20, and what stands in the line and the state afterwards.
+-- Opening a line: answers 1, 2, 9-13, 20, and what stands in the line and the state afterwards.
 -- Assumes nothing.
 use Prim.Native.Nat.{ℕ}
 use mathlib.Core.Bool.{Bool, false, _&&_, _||_, not}
@@ -29,7 +29,7 @@ unfoldable pub openBlocked : Writer → ℕ → Settings → Bool
 openBlocked w n t =
     isAt (w .place) || (isPart (w .rest) && (not (sameSettings t (w .settings)) || not (isNext (systemOf (w .system) .lines) (w .last) n)))
 
--- 1; 2; 9: line number not 1..N; 10 to 14; 20
+-- 1; 2; 9: line number not 1..N; 10 to 13; 20
 abbrev pub openFaults : Writer → ℕ → Settings → ℕ → List Refusal
 openFaults w n t long =
     when 1 (not (fitsLength (w .system) (w .mode) long))

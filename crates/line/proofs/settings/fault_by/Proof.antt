@@ -1,6 +1,5 @@
 -- `line::settings::fault_by` meets its contract. Assumes nothing.
-use Rattle.lists.proofs.Needs.{need}
-use mathlib.Core.Path.{_≡_, sym, ap, _∙_}
+use mathlib.Core.Path.{_≡_, refl, sym, ap, _∙_}
 use mathlib.Core.Bool.{false, not}
 use lib.Dec.{eqb, ltb}
 use borrow.Author.Tests.{eq-eqb, ne-eqb, lt-ltb, le-ltb}
@@ -31,6 +30,9 @@ module _ (c : tie.After-block-refused) where
       let g = x .before .args in
       c .block-refused .ensures ∙ ap (λ (y : System). blockRefused (y .payload) (g .settings .block) (g .settings .flag)) (x .system-of .ensures)
 
+system-of-requires : tie.Need-system-of-requires
+system-of-requires c κs = search needs
+
 returns : tie.Need-returns
 unfolding settingsFault settingsFaults
 returns c =
@@ -48,6 +50,9 @@ returns-2 c =
     let l : LowestOf (settingsFaults (systemOf (g .system)) (g .settings)) 11 = low-miss 10 (code-good t) (low-hit 11 (lt-ltb _ _ (c .if2 .taken))) in
     l .is
 
+block-refused-requires : tie.Need-block-refused-requires
+block-refused-requires c κs = search needs
+
 returns-3 : tie.Need-returns-3
 unfolding settingsFault settingsFaults
 returns-3 c =
@@ -59,23 +64,13 @@ returns-3 c =
     low-miss 10 (code-good t) (low-miss 11 (aai-good u) (low-hit 12 (sym (asked r) ∙ c .if3 .taken))) in
     l .is
 
+or-else-requires : tie.Need-or-else-requires
+or-else-requires c κs = search needs
+
 returns-4 : tie.Need-returns-4
 unfolding settingsFault settingsFaults
 returns-4 c =
-    let r = c .before .before .before in
-    let u = r .before in
-    let t = u .before .before in
-    let g = t .before .before .before .before .args in
-    let l : LowestOf (settingsFaults (systemOf (g .system)) (g .settings)) 13 =
-    low-miss 10 (code-good t) (low-miss 11 (aai-good u) (low-miss 12 (sym (asked r) ∙ c .before .before .if3 .left) (low-hit 13 (lt-ltb _ _ (c .if4 .taken))))) in
-    l .is
-
-returns-5 : tie.Need-returns-5
-unfolding settingsFault settingsFaults
-returns-5 c =
-    let z = c .before in
-    let f = z .before in
-    let e = f .before .before in
+    let e = c .before .before in
     let r = e .before in
     let u = r .before in
     let t = u .before .before in
@@ -84,13 +79,10 @@ returns-5 c =
     low-miss 10 (code-good t)
     (low-miss 11 (aai-good u)
     (low-miss 12 (sym (asked r) ∙ e .if3 .left)
-    (low-miss 13 (le-ltb _ _ (f .if4 .left))
-    (low-step 14 (c .or-else .ensures) (ap not (z .is-unreserved .ensures)) low-none)))) in
+    (low-step 13 (c .or-else .ensures) refl low-none))) in
     l .is
 
 pub fault-by-spec : {M : Type 1} → statement M
 fault-by-spec =
-    tie.close (tie.spec
-    (need tie.Need-system-of-requires (λ c κs. search needs)) returns returns-2 (need tie.Need-block-refused-requires (λ c κs. search needs))
-    returns-3 returns-4 (need tie.Need-is-unreserved-requires (λ c κs. search needs)) (need tie.Need-or-else-requires (λ c κs. search needs))
-    returns-5)
+    tie.close
+    (tie.spec system-of-requires returns returns-2 block-refused-requires returns-3 or-else-requires returns-4)
