@@ -10,7 +10,7 @@ from words import VARIABLE
 FAULTS = (*range(3, 14), 15, 16)
 
 # Rows of each name, and events of each kind in each mode
-ROWS = {"close": 1231, "read": 2150, "room": 161, "opened": 1720, "added": 1010, "closed": 720, "check": 1342, "crc": 172, "header": 30}
+ROWS = {"close": 1255, "read": 2455, "room": 161, "opened": 1720, "added": 1010, "closed": 720, "check": 1642, "crc": 172, "header": 30}
 ROWS |= {"state": 1540, "impossible": 555, "words": 16}
 EVENTS = {"begun": 300, "begun dropped": 15, "begun with an open block": 50, "block": 1000, "end": 400, "refused 1": 80, "refused 2": 30}
 EVENTS |= {f"drop {k}": 4 for k in range(1, 7)} | {f"refused {k}{how}": 1 for k in FAULTS for how in ("", " dropped")}
@@ -58,6 +58,8 @@ def missing(scope, play):
     for kind, n in LISTS.items():
         if play.seen["crc", kind] < n:
             yield f"fewer than {n} lists of kind and length {kind}"
+    for what in kinds.passed(play.seen):
+        yield f"a short burst that is not refused with 15 or 16: {what}"
     for what in itertools.chain(reader(scope), writer(scope), check(scope), kinds.asked(scope)):
         if not play.seen[what]:
             yield f"nowhere {what}"

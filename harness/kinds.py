@@ -1,10 +1,12 @@
-"""Kinds of rows at edges, by which enough.py asks for the cases of edges.py and reserved.py: what a step has met beside its answer."""
+"""Kinds of rows at edges, by which enough.py asks for the cases of edges.py, reserved.py and bursts.py: what a step has met beside its answer."""
+from answers import answer
 from words import VARIABLE, byte_form
 from writer import Writer
 
 EDGE = 0x300  # the first word above data form: B9 and B8 are both 1
 TO_0 = {1: "aai", 3: "flag"}  # settings by their index
 FIVE = range(36, 41)  # the reserved bytes
+SHORT = 18  # bits: no burst within so many passes
 
 
 def of_line(scope, system, mode, line, fault):
@@ -18,6 +20,33 @@ def of_line(scope, system, mode, line, fault):
         yield "300h in a header", system, fault
     elif EDGE in line[length - payload :]:
         yield "300h in an area", mode, fault
+
+
+def of_burst(scope, system, mode, sent, line, fault):
+    """What became of an accepted line with flag 01h of which only bits that the CRC covers are changed, within how many consecutive ones."""
+    bits = changed_bits(sent, line)
+    if not bits or not scope.fits(system, mode, line):
+        return
+    length, payload, _ = scope.systems[system]
+    start, end = 10 * (length - payload), 10 * (length - 2)
+    width = bits[-1] - bits[0] + 1
+    if bits[0] < start or bits[-1] >= end or width > 19 or answer(scope, system, mode, sent)[0] or sent[48] & 0xFF != 1:
+        return
+    yield "burst", system, mode, width <= SHORT, fault
+    yield "burst of", system, mode, width
+
+
+def changed_bits(old, new):
+    """Places of the bits in which two lines of the same length differ, ten to a word; none where they differ in another way."""
+    words = [(i, a ^ b) for i, (a, b) in enumerate(zip(old, new)) if a != b]
+    if len(old) != len(new) or any(w > 0x3FF for _, w in words):
+        return []
+    return [10 * i + k for i, w in words for k in range(10) if w >> k & 1]
+
+
+def passed(seen):
+    """Short bursts with another answer than 15 or 16."""
+    return [what for what, n in seen.items() if n and what[0] == "burst" and what[3] and what[4] not in (15, 16)]
 
 
 def to_0(old, new):
@@ -85,6 +114,10 @@ def asked(scope):
     """What has to have been met."""
     yield from (("300h in a header", system, 5) for system in scope.systems)
     yield from (("300h in an area", mode, 15) for mode in (8, 9))
+    for system in scope.systems:
+        yield from (("burst", system, mode, True, fault) for mode in (8, 9) for fault in (15, 16))
+        yield from (("burst of", system, mode, width) for mode in (8, 9) for width in range(1, SHORT + 1))
+        yield "burst", system, 9, False, 0
     for mode in 8, 9:
         yield from (("opened to 0", name, mode, 20) for name in TO_0.values())
         yield from (("begun to 0", name, mode, True) for name in TO_0.values())

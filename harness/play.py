@@ -47,6 +47,7 @@ class Play:
         self.seen = collections.Counter()  # what happened, by a name and what it happened to
         self.events = collections.Counter()  # by mode and name, with the number of a drop or a refusal
         self.made, self.covered = None, []
+        self.sent = []  # the line that the step `close` closed last
 
     def step(self, text):
         name, *numbers = text.split(" ")
@@ -145,7 +146,9 @@ class Play:
 
     def close(self):
         length = self.scope.systems[self.system()][0]
-        self.rows.append(["close", *self.lent(length, Writer.close)])
+        given, register = self.lent(length, Writer.close)
+        self.sent = self.line[:length]
+        self.rows.append(["close", given, register])
 
     def big_close(self, length):
         before = to_writer(self.scope, self.states[WRITER])
@@ -232,6 +235,7 @@ class Play:
         fault, number, values = answer(self.scope, system, mode, line)
         self.seen["check", system, fault] += 1
         self.seen.update(kinds.of_line(self.scope, system, mode, line, fault))
+        self.seen.update(kinds.of_burst(self.scope, system, mode, self.sent, line, fault))
         if fault == 0:
             self.seen["good", system, mode, *values[2:4]] += 1
         self.rows.append(["check", Register(line), fault, number, *(values or [0] * 41)])

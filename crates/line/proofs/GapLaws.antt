@@ -1,25 +1,22 @@
 -- The gap: how long it is whatever is laid in it, and its filler by the line's own index; and that the line check doesn't look at it.
 -- Assumes nothing.
 use mathlib.Core.Path.{_≡_, refl, sym, ap, ap₂, _∙_}
-use mathlib.Core.Bool.{_&&_, not}
-use mathlib.Core.List.{List, [], _∷_, _++_, map, append-assoc}
-use Prim.Native.Nat.{ℕ, zero, suc, _+_, _-_, _*_, _/_, _%_, _<_, _≤_}
+use mathlib.Core.Bool.{not}
+use mathlib.Core.List.{List, [], _∷_, _++_, append-assoc}
+use Prim.Native.Nat.{ℕ, zero, suc, _+_, _-_, _<_, _≤_}
 use native.Mathlib.Nat.{add-zero, add-suc, suc-add, sub-zero, zero-sub, suc-sub-suc, le-of-suc-le-suc, not-suc-le-zero}
 use native.Mathlib.Omega.{arith}
-use lib.Dec.{eqb, leb, lit<, lit≤}
 use lib.ListN.{length, getD, take, drop, length-append}
-use lib.Seq.{drop-drop, getD-take}
+use lib.Seq.{drop-drop}
 use Rattle.lists.specs.Tests.{Refusal, when, lowestOf}
-use Rattle.lists.specs.Lists.{part}
-use Rattle.lists.proofs.Lists.{inside}
 use Rattle.line.specs.declared.settings.Settings.{Settings}
 use Rattle.line.specs.declared.systems.System.{System}
 use Rattle.line.specs.Systems.{systemOf}
 use Rattle.line.specs.Settings.{settingsFaults}
 use Rattle.line.specs.Fixed.{isVariable}
 use Rattle.line.specs.Layout.{gapAt, savAt, payloadAt, gapWord, gapWords, gapAfter, areaLength, areaOf, endOf}
-use Rattle.line.specs.Check.{low, numberOf, settingsOf, timed, formed, crcStands, numbered, headFaults, areaFaults, payloadFaults, faults, fitsLength, lineFault, checkedFrom, checkedOf}
-use Rattle.line.proofs.Headers.{settingsFrom, from-bytes}
+use Rattle.line.specs.Check.{settingsOf, headFaults, areaFaults, payloadFaults, faults, fitsLength, lineFault, checkedFrom, checkedOf}
+use Rattle.line.proofs.HeadSeen.{SameHead, number-alike, settings-alike, head-alike}
 
 -- ---- the filler
 pub gap-length : (i n : ℕ) → length (gapWords i n) ≡ n
@@ -66,11 +63,8 @@ pub record Alike (s : System) (l m : List ℕ) : Type 0 where
   pub behind : drop (savAt s) l ≡ drop (savAt s) m
 
 module _ (s : System) (l m : List ℕ) (a : Alike s l m) where
-  seen : (i n : ℕ) → i + n ≤ 57 → part i n l ≡ part i n m
-  seen i n h = sym (inside i n 57 l h) ∙ ap (part i n) (a .before) ∙ inside i n 57 m h
-
-  word : (i : ℕ) → i < 57 → getD l i 0 ≡ getD m i 0
-  word i h = sym (getD-take 57 l i 0 h) ∙ ap (λ (x : List ℕ). getD x i 0) (a .before) ∙ getD-take 57 m i 0 h
+  head : SameHead s l m
+  head = record { front = a .before; sav = ap (take 4) (a .behind) }
 
   -- all that stands from SAV on
   pub behind-alike : (i : ℕ) → savAt s ≤ i → drop i l ≡ drop i m
@@ -78,33 +72,6 @@ module _ (s : System) (l m : List ℕ) (a : Alike s l m) where
     where
       from : (x : List ℕ) → drop i x ≡ drop (i - savAt s) (drop (savAt s) x)
       from x = let e : i ≡ savAt s + (i - savAt s) = omega arith in ap (λ (k : ℕ). drop k x) e ∙ sym (drop-drop (i - savAt s) (savAt s) x)
-
-  number-alike : numberOf l ≡ numberOf m
-  unfolding numberOf
-  number-alike = ap₂ (λ (x y : ℕ). low x + y % 4 * 256) (word 10 (lit< tt)) (word 11 (lit< tt))
-
-  settings-alike : settingsOf l ≡ settingsOf m
-  settings-alike = from-bytes l ∙ ap (λ (x : List ℕ). settingsFrom (map low x)) (seen 14 40 (lit≤ tt)) ∙ sym (from-bytes m)
-
-  timed-alike : timed (savAt s) l ≡ timed (savAt s) m
-  unfolding timed
-  timed-alike = simp (word 3 (lit< tt), seen 0 4 (lit≤ tt), ap (take 4) (a .behind))
-
-  formed-alike : formed l ≡ formed m
-  unfolding formed
-  formed-alike = simp (seen 10 2 (lit≤ tt), seen 12 2 (lit≤ tt), seen 14 40 (lit≤ tt), seen 54 3 (lit≤ tt))
-
-  crc-alike : (i n : ℕ) → i + n + 2 ≤ 57 → crcStands i n l ≡ crcStands i n m
-  unfolding crcStands
-  crc-alike i n h = simp (seen (i + n) 2 h, seen i n (omega arith))
-
-  numbered-alike : numbered (s .lines) l ≡ numbered (s .lines) m
-  unfolding numbered
-  numbered-alike = ap₂ (λ (n w : ℕ). leb 1 n && (leb n (s .lines) && eqb (low w / 4) 0)) number-alike (word 11 (lit< tt))
-
-  head-alike : headFaults s l ≡ headFaults s m
-  unfolding headFaults
-  head-alike = simp (timed-alike, seen 4 6 (lit≤ tt), formed-alike, seen 56 1 (lit≤ tt), seen 7 49 (lit≤ tt), crc-alike 7 5 (lit≤ tt), crc-alike 14 40 (lit≤ tt), numbered-alike)
 
   payload-alike : (mode block flag : ℕ) → payloadFaults s mode block flag l ≡ payloadFaults s mode block flag m
   unfolding payloadFaults areaOf endOf
@@ -115,11 +82,11 @@ module _ (s : System) (l m : List ℕ) (a : Alike s l m) where
   pub faults-alike : (mode : ℕ) → faults s mode l ≡ faults s mode m
   unfolding faults
   faults-alike mode =
-      ap₂ (λ (hs : List Refusal) (t : Settings). hs ++ (settingsFaults s t ++ payloadFaults s mode (t .block) (t .flag) l)) head-alike settings-alike
+      ap₂ (λ (hs : List Refusal) (t : Settings). hs ++ (settingsFaults s t ++ payloadFaults s mode (t .block) (t .flag) l)) (head-alike s l m head) (settings-alike s l m head)
       ∙ ap (λ (ps : List Refusal). headFaults s m ++ (settingsFaults s (settingsOf m) ++ ps)) (payload-alike mode (settingsOf m .block) (settingsOf m .flag))
 
   checked-alike : (n : ℕ) → checkedFrom n l ≡ checkedFrom n m
-  checked-alike zero = ap₂ (λ (k : ℕ) (t : Settings). record { fault = 0; number = k; settings = t }) number-alike settings-alike
+  checked-alike zero = ap₂ (λ (k : ℕ) (t : Settings). record { fault = 0; number = k; settings = t }) (number-alike s l m head) (settings-alike s l m head)
   checked-alike (suc n) = refl
 
 -- the line check of lines that agree outside the gap is the same

@@ -5,6 +5,7 @@ pub mod SettingsLaws
 pub mod AreaLaws
 pub mod Written
 pub mod Headers
+pub mod HeadSeen
 pub mod GapLaws
 pub mod Lines
 pub mod Examples

@@ -103,7 +103,7 @@ step-lt c b hb =
     xor-lt 18 (register c / 2) (bitXor b (c % 2) * taps) (lt-of-le-of-lt (div-le-self (register c) 2) (mod-lt c (lit< tt)))
     (below2 (λ f. f * taps < 2 ^ 18) (lit< tt) (lit< tt) (bitXor b (c % 2)) (xor-lt 1 b (c % 2) hb (odd-lt c)))
 
-bits-lt : (c : ℕ) (bs : List ℕ) → crcBits c bs < 2 ^ 18
+pub bits-lt : (c : ℕ) (bs : List ℕ) → crcBits c bs < 2 ^ 18
 unfolding crcBits
 bits-lt c [] = mod-lt c (lit< tt)
 bits-lt c (b ∷ bs) = bits-lt (crcBit c b) bs

@@ -27,7 +27,7 @@ binary-append : (cs bs : List ℕ) → Binary cs → Binary bs → Binary (cs ++
 binary-append [] bs p q = q
 binary-append (c ∷ cs) bs p q = (p .0, binary-append cs bs (p .1) q)
 
-low-binary : (n w : ℕ) → Binary (lowBits n w)
+pub low-binary : (n w : ℕ) → Binary (lowBits n w)
 unfolding lowBits
 low-binary zero w = tt
 low-binary (suc n) w = (odd-lt w, low-binary n (w / 2))
@@ -37,7 +37,7 @@ unfolding bitsOf
 bits-binary [] = tt
 bits-binary (w ∷ ws) = binary-append (lowBits 10 w) (bitsOf ws) (low-binary 10 w) (bits-binary ws)
 
-low-length : (n w : ℕ) → length (lowBits n w) ≡ n
+pub low-length : (n w : ℕ) → length (lowBits n w) ≡ n
 unfolding lowBits
 low-length zero w = refl
 low-length (suc n) w = ap suc (low-length n (w / 2))
