@@ -1,7 +1,10 @@
 // Lists the lines on standard input, of system 0 and 8-bit, two bytes a word, low byte first: a row for each event. Every row's
 // text is rows::row_of's. The rows of a line are a text in memory before they are written, because no contract can say what
 // io::write_all has written: list_line promises the text, and what is written is the text of list_line, line by line.
-use libc::STDIN_FILENO;
+// A program has no status. Where a read or a write fails it says why on standard error, and ends; harness/program makes a status of that.
+mod input;
+
+use input::Got;
 use libc::STDOUT_FILENO;
 use reader::read;
 use reader::state;
@@ -98,27 +101,44 @@ fn list_line(st: Reader, line: &[u16], room: &mut [u16], text: &mut [u8]) -> Lef
     }
 }
 
-// Reads a line and lists it. A line that is cut is refused, and is the last. No line is begun where the next one is read.
+// Writes a text, and answers whether it was written.
+fn write_text(text: &[u8]) -> bool {
+    let is_written = io::write_all(STDOUT_FILENO, text);
+    if !is_written {
+        os::fail(b"listing: standard output");
+    }
+    is_written
+}
+
+// Where no whole line is left: a line that is cut is refused, and a read that failed is said.
+fn list_rest(got: Got, text: &mut [u8])
+    requires { ⌜ length (now text) ≡ 69216 ⌝ }
+{
+    if got.failed {
+        os::fail(b"listing: standard input");
+        return;
+    }
+    if got.count > 0 {
+        let cut = Event::Refused {
+            answer: 1,
+            dropped: false,
+        };
+        let e = put_row(cut, 0, text);
+        write_text(&text[..e]);
+    }
+}
+
+// Reads a line and lists it. One that is not whole is the last, and so is one that could not be written. No line is begun where the next
+// one is read.
 fn next_line(kept: Kept, room: &mut [u16; 16384], text: &mut [u8]) -> Kept
     requires { ⌜ length (now text) ≡ 69216 ⌝ }
     ensures { λ r. ⌜ (Between (kept .state) → Between (r .state)) ⌝ }
 {
     let st = kept.state;
     let mut bytes = [0u8; 3432];
-    let n = io::read_full(STDIN_FILENO, &mut bytes);
-    if n == 0 {
-        return Kept {
-            state: st,
-            more: false,
-        };
-    }
-    if n < 3432 {
-        let cut = Event::Refused {
-            answer: 1,
-            dropped: false,
-        };
-        let e = put_row(cut, 0, text);
-        io::write_all(STDOUT_FILENO, &text[..e]);
+    let got = input::read_line(&mut bytes);
+    if got.count < 3432 {
+        list_rest(got, text);
         return Kept {
             state: st,
             more: false,
@@ -129,10 +149,10 @@ fn next_line(kept: Kept, room: &mut [u16; 16384], text: &mut [u8]) -> Kept
     let left = list_line(st, &line, room, text);
     let after = left.state;
     let e = left.length;
-    io::write_all(STDOUT_FILENO, &text[..e]);
+    let is_written = write_text(&text[..e]);
     Kept {
         state: after,
-        more: true,
+        more: is_written,
     }
 }
 

@@ -23,12 +23,13 @@ fn is_word(i: usize, name: &[u8]) -> bool {
     lists::same_bytes(&word[..n], name)
 }
 
-// `lose LINE COUNT`.
+// `lose LINE COUNT`. So many lines have to be sent from that one on.
 fn lose() -> Damage {
     let line = number_at(2);
     let count = number_at(3);
+    let end = plan::turn_of(line) as u32 + count as u32;
     Damage {
-        good: plan::is_sent(line) & (1 <= count) & (count <= plan::LINES),
+        good: plan::is_sent(line) & (1 <= count) & (end <= plan::LINES as u32),
         lost: line,
         count: count,
         spoiled: 0,

@@ -1,6 +1,6 @@
 // Writes a small transmission on standard output, of system 0 and 8-bit, two bytes a word, low byte first, as the listing program
 // reads it. Words of the command line ask for damage: `lose LINE COUNT` or `spoil LINE`. The writer lays every word of a line; here
-// data is only moved.
+// data is only moved. A program has no status: why it ends early stands on standard error, and harness/program makes a status of that.
 mod damage;
 mod plan;
 
@@ -92,41 +92,43 @@ fn fill_line(kept: Kept, fixed: bool, line: &mut [u16]) -> Kept {
     add_blocks(kept, line)
 }
 
-// The line as bytes.
-fn write_line(line: &[u16; 1716]) {
+// The line as bytes: whether it was written.
+fn write_line(line: &[u16; 1716]) -> bool {
     let mut bytes = [0u8; 3432];
     octets::bytes_of(line, &mut bytes);
-    io::write_all(STDOUT_FILENO, &bytes);
+    let is_written = io::write_all(STDOUT_FILENO, &bytes);
+    if !is_written {
+        os::fail(b"sending: standard output");
+    }
+    is_written
 }
 
-// What is left of the line after the damage.
-fn send_line(d: Damage, number: u16, line: &mut [u16; 1716]) {
+// What is left of the line after the damage is sent: whether more may be.
+fn send_line(d: Damage, number: u16, line: &mut [u16; 1716]) -> bool {
     if damage::is_lost(d, number) {
-        return;
+        return true;
     }
     if d.spoiled == number {
         damage::spoil_word(line);
     }
-    write_line(line);
+    write_line(line)
 }
 
-// A line opened, filled, closed and sent.
-fn next_line(kept: Kept, turn: u16, d: Damage) -> Kept {
-    let mut line = [0u16; 1716];
+// A line opened, filled and closed.
+fn next_line(kept: Kept, turn: u16, line: &mut [u16; 1716]) -> Kept {
     let fixed = plan::is_fixed(turn);
     let number = plan::number_of(turn);
     let settings = plan::settings_of(plan::block_of(fixed));
-    let opened = opening::open_line(kept.writer, false, false, number, settings, &mut line);
+    let opened = opening::open_line(kept.writer, false, false, number, settings, line);
     let w = opened.state;
     let begun = Kept {
         writer: w,
         block: kept.block,
         full: false,
     };
-    let filled = fill_line(begun, fixed, &mut line);
-    let closed = closing::close_line(filled.writer, &mut line);
+    let filled = fill_line(begun, fixed, line);
+    let closed = closing::close_line(filled.writer, line);
     let after = closed.state;
-    send_line(d, number, &mut line);
     Kept {
         writer: after,
         block: filled.block,
@@ -134,15 +136,19 @@ fn next_line(kept: Kept, turn: u16, d: Damage) -> Kept {
     }
 }
 
+// All lines, to the first that cannot be written.
 fn send_all(d: Damage) {
     let mut kept = Kept {
         writer: state::fresh_writer(0, 8),
         block: 0,
         full: false,
     };
+    let mut line = [0u16; 1716];
+    let mut more = true;
     let mut turn = 0u16;
-    while turn < plan::LINES {
-        kept = next_line(kept, turn, d);
+    while turn < plan::LINES && more {
+        kept = next_line(kept, turn, &mut line);
+        more = send_line(d, plan::number_of(turn), &mut line);
         turn += 1;
     }
 }
@@ -155,6 +161,6 @@ fn main() {
     }
     io::write_all(
         STDERR_FILENO,
-        b"sending: the words are none, lose LINE COUNT or spoil LINE; LINE is 520 to 525 or 1 to 6, COUNT 1 to 12\n",
+        b"sending: the words are none, lose LINE COUNT or spoil LINE; LINE is 520 to 525 or 1 to 6, and COUNT lines are sent from it on\n",
     );
 }
