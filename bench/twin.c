@@ -1,6 +1,7 @@
 // The jobs of the program `pace`, written by hand in C: lines of system 0 written, checked and read in memory.
-//   twin WHAT JOB MODE ROUNDS     WHAT: write, read, check; JOB: a, b, c, d; MODE: 8, 9
-// Jobs: a variable blocks of 10,000 values, flag 01h; b of 100 values; c fixed blocks 21h, flag 00h; d filler lines, flag 01h.
+//   twin WHAT JOB MODE ROUNDS     WHAT: write, read, check; JOB: a, b, c, d, e, f; MODE: 8, 9
+// Jobs: a variable blocks of 10,000 values, flag 01h; b of 100 values; c fixed blocks 21h, flag 00h; d filler lines, flag 01h;
+// e, f, with WHAT write alone: a filler line, or a line full of a's blocks, closed again and again.
 // A round is eight lines. What is printed is a digest, which `pace` has to print too.
 #include <stdint.h>
 #include <stdio.h>
@@ -40,26 +41,44 @@ static uint32_t crc_word(uint32_t c, unsigned w) {
 
 static uint64_t fed(uint64_t x, int a, int b, int c) { return x ^ x << a ^ x << b ^ x << c; }
 
-static uint32_t crc_of(const uint16_t *w, size_t n) {
-    uint64_t c = 0x3FFFF;
+static uint64_t after_sixty(uint64_t x) {
+    x = fed(fed(fed(x, 13, 14, 18), 26, 28, 36), 52, 56, 60) & 0xFFFFFFFFFFFFFFF;
+    return x >> 42 ^ x >> 46 ^ x >> 47;
+}
+
+// The register c taken on over the words.
+static uint32_t crc_on(uint64_t c, const uint16_t *w, size_t n) {
     size_t i = 0;
     for (; i + 6 <= n; i += 6) {
         uint64_t x = c;
         for (int k = 0; k < 6; k++)
             x ^= (uint64_t)(w[i + k] & 0x3FF) << 10 * k;
-        x = fed(fed(fed(x, 13, 14, 18), 26, 28, 36), 52, 56, 60) & 0xFFFFFFFFFFFFFFF;
-        c = x >> 42 ^ x >> 46 ^ x >> 47;
+        c = after_sixty(x);
     }
     for (; i < n; i++)
         c = crc_word((uint32_t)c, w[i]);
     return (uint32_t)c;
 }
 
-static void crc_words(const uint16_t *w, size_t n, uint16_t *out) {
-    uint32_t c = crc_of(w, n);
+// And over n words of filler.
+static uint32_t crc_filler(uint64_t c, size_t n) {
+    for (; n >= 6; n -= 6)
+        c = after_sixty(c ^ 0x802008020080200);
+    for (; n > 0; n--)
+        c = crc_word((uint32_t)c, FILLER);
+    return (uint32_t)c;
+}
+
+enum { CRC_START = 0x3FFFF };
+
+static uint32_t crc_of(const uint16_t *w, size_t n) { return crc_on(CRC_START, w, n); }
+
+static void register_words(uint32_t c, uint16_t *out) {
     out[0] = data_word(c);
     out[1] = data_word(c >> 9);
 }
+
+static void crc_words(const uint16_t *w, size_t n, uint16_t *out) { register_words(crc_of(w, n), out); }
 
 // Unknown system or mode, or line not L long.
 static int unfit(unsigned system, int mode, size_t length) { return system != SYSTEM || (mode != 8 && mode != 9) || length != LENGTH; }
@@ -146,13 +165,14 @@ static void header(unsigned number, const Settings *s, uint16_t *h) {
 typedef struct {
     unsigned system, number, kind, n, laid, place; // an unfinished block has laid > 0
     int mode;
+    uint32_t crc; // of the area words laid so far in this line
     Settings settings;
 } Writer;
 
 static int writer_fault(const Writer *w, size_t length) {
     if (unfit(w->system, w->mode, length))
         return 1;
-    if (!possible(w->number, &w->settings, w->place, w->laid != 0) || (w->laid && (w->n > ROOM || w->laid > w->n + 6)))
+    if (!possible(w->number, &w->settings, w->place, w->laid != 0) || (w->laid && (w->n > ROOM || w->laid > w->n + 6)) || w->crc > 0x3FFFF)
         return 2;
     return 0;
 }
@@ -178,6 +198,7 @@ static int open_line(Writer *w, const Settings *s, unsigned number, uint16_t *li
     w->number = number;
     w->settings = *s;
     w->place = 0;
+    w->crc = CRC_START;
     return 0;
 }
 
@@ -217,6 +238,7 @@ static int add_block(Writer *w, unsigned kind, const uint16_t *v, size_t n, uint
     if (w->settings.block != VARIABLE) {
         at[0] = byte_word(kind);
         put_values(w->mode, v, n, at + 1);
+        w->crc = crc_on(w->crc, at, n + 1);
         w->place += n + 1;
         *finished = 1;
         return 0;
@@ -233,6 +255,7 @@ static int add_block(Writer *w, unsigned kind, const uint16_t *v, size_t n, uint
         at[done++] = END_CODE;
         w->laid++;
     }
+    w->crc = crc_on(w->crc, at, done);
     w->place += done;
     w->kind = kind;
     w->n = n;
@@ -249,8 +272,9 @@ static int close_line(Writer *w, uint16_t *line, size_t length) {
     if (fault)
         return fault;
     if (w->settings.flag == 1)
-        crc_words(line + START, PAYLOAD - 2, line + LENGTH - 2);
+        register_words(crc_filler(w->crc, PAYLOAD - 2 - w->place), line + LENGTH - 2);
     w->place = NONE;
+    w->crc = CRC_START;
     return 0;
 }
 
@@ -471,6 +495,27 @@ static void write_round(Writer *w, const Settings *s, int job) {
     }
 }
 
+// Eight lines closed in the same state, but for the CRC, which is what the line closed before got.
+static uint32_t close_round(const Writer *w, uint32_t c) {
+    for (int k = 0; k < BATCH; k++) {
+        Writer again = *w;
+        again.crc = c;
+        close_line(&again, lines[k], LENGTH);
+        c = (lines[k][LENGTH - 2] & 0x1FFu) | (lines[k][LENGTH - 1] & 0x1FFu) << 9;
+    }
+    return c;
+}
+
+static void close_rounds(Writer *w, const Settings *s, int job, long rounds) {
+    int finished = job == 'f';
+    open_line(w, s, 1, lines[0], LENGTH);
+    while (finished && !add_block(w, 7, values, MOST, lines[0], LENGTH, &finished))
+        ;
+    uint32_t c = w->crc;
+    for (long i = 0; i < rounds; i++)
+        c = close_round(w, c);
+}
+
 static uint32_t read_round(int mode, uint32_t digest) {
     Reader r = {.place = NONE, .mode = mode};
     for (int k = 0; k < BATCH; k++) {
@@ -503,10 +548,12 @@ int main(int argc, char **argv) {
     memset(s.from, 2, sizeof s.from);
     for (int i = 0; i < MOST; i++)
         values[i] = (uint16_t)(i * 7 + 3) % (mode == 8 ? 256 : 512);
-    Writer w = {.place = NONE, .mode = mode};
+    Writer w = {.place = NONE, .mode = mode, .crc = CRC_START};
     uint32_t digest = 0;
     long writes = what == 'w' ? rounds : 1;
-    for (long i = 0; i < writes; i++)
+    if (job >= 'e')
+        close_rounds(&w, &s, job, writes);
+    for (long i = 0; job < 'e' && i < writes; i++)
         write_round(&w, &s, job);
     for (long i = 0; what != 'w' && i < rounds; i++)
         digest = what == 'r' ? read_round(mode, digest) : check_round(mode, digest);

@@ -10,8 +10,8 @@ from words import VARIABLE
 FAULTS = (*range(3, 14), 15, 16)
 
 # Rows of each name, and events of each kind in each mode
-ROWS = {"close": 1255, "read": 2455, "room": 161, "opened": 1720, "added": 1010, "closed": 720, "check": 1642, "crc": 172, "header": 30}
-ROWS |= {"state": 1540, "impossible": 555, "words": 16}
+ROWS = {"close": 1255, "read": 2455, "room": 161, "opened": 2000, "added": 1340, "closed": 1010, "check": 1834, "crc": 172, "header": 30}
+ROWS |= {"state": 2590, "impossible": 620, "words": 200}
 EVENTS = {"begun": 300, "begun dropped": 15, "begun with an open block": 50, "block": 1000, "end": 400, "refused 1": 80, "refused 2": 30}
 EVENTS |= {f"drop {k}": 4 for k in range(1, 7)} | {f"refused {k}{how}": 1 for k in FAULTS for how in ("", " dropped")}
 

@@ -1,12 +1,13 @@
-"""Kinds of rows at edges, by which enough.py asks for the cases of edges.py, reserved.py and bursts.py: what a step has met beside its answer."""
+"""Kinds of rows at edges, by which enough.py asks for the cases of edges.py, reserved.py, bursts.py and running.py: what a step has met beside its answer."""
 from answers import answer
-from words import VARIABLE, byte_form
-from writer import Writer
+from words import ALL_ONES, VARIABLE, byte_form, taken_on
+from writer import DONE, Writer
 
 EDGE = 0x300  # the first word above data form: B9 and B8 are both 1
 TO_0 = {1: "aai", 3: "flag"}  # settings by their index
 FIVE = range(36, 41)  # the reserved bytes
 SHORT = 18  # bits: no burst within so many passes
+LONG = [ALL_ONES + 1, 0xFFFFFFFF]  # numbers above 18 bits
 
 
 def of_line(scope, system, mode, line, fault):
@@ -85,13 +86,32 @@ def of_rest(call, before, given):
     if before.rest is None or given == 1:
         return
     other = Writer(before.scope, before.system, before.mode)
-    other.last, other.settings, other.place = before.last, before.settings, before.place
+    other.last, other.settings, other.place, other.crc = before.last, before.settings, before.place, before.crc
     other.rest = (before.rest[0], 10, 5)
     if other.impossible():
         return
     _, n, laid = before.rest
     causes = {"n 16,385": n == 16385, "laid 0": laid == 0, "laid n + 7": laid == n + 7}
     yield from (("rest", name, call, before.mode, given) for name, holds in causes.items() if holds)
+
+
+def of_crc(call, before, given):
+    """A stored CRC above 18 bits, where nothing else is wrong with the state."""
+    number, before.crc = before.crc, ALL_ONES
+    if number in LONG and not before.impossible():
+        yield "crc above 18 bits", number, call, before.mode, given
+    before.crc = number
+
+
+def of_closing(before, line, given):
+    """A line closed with flag 01h: whether the stored CRC was that of the words laid, and how the line then stood."""
+    if given != DONE or before.settings[3] != 1:
+        return
+    start, end, size = before.sizes()
+    place = before.place
+    right = before.crc == taken_on(ALL_ONES, line[start : start + place])
+    how = {"at once": place == 0, "full": place == len(line) - 2 - start, "empty places": size > 1 and 0 < place < end, "unfinished": before.rest is not None}
+    yield from (("closed", name, right, before.mode) for name, holds in (how | {"any": True}).items() if holds)
 
 
 def of_begun(mode, old, new, event):
@@ -123,6 +143,9 @@ def asked(scope):
         yield from (("begun to 0", name, mode, True) for name in TO_0.values())
         yield "opened with number 0", mode, 2
         yield from (("rest", why, call, mode, 2) for why in ("n 16,385", "laid 0", "laid n + 7") for call in ("opened", "added", "closed"))
+        yield from (("crc above 18 bits", number, call, mode, 2) for number in LONG for call in ("opened", "added", "closed"))
+        yield from (("closed", how, True, mode) for how in ("at once", "full", "empty places", "unfinished"))
+        yield "closed", "any", False, mode
     yield from (("phase", why, 1) for why in ("announced", "collected", "above the count"))
     yield "impossible", 1, 1
     for k in FIVE:

@@ -145,14 +145,24 @@ class Play:
         self.tell_call("opened", before, given, register)
 
     def close(self):
+        """Words that other steps laid the writer knows nothing of: with flag 01h the CRC is then put right."""
+
+        def closed(writer, line):
+            given = writer.close(line)
+            if given == DONE and writer.settings[3] == 1:
+                line[-2:] = crc_of(line[writer.sizes()[0] : -2])
+            return given
+
         length = self.scope.systems[self.system()][0]
-        given, register = self.lent(length, Writer.close)
+        given, register = self.lent(length, closed)
         self.sent = self.line[:length]
         self.rows.append(["close", given, register])
 
     def big_close(self, length):
         before = to_writer(self.scope, self.states[WRITER])
-        self.tell_call("closed", before, *self.lent(length, Writer.close))
+        given, register = self.lent(length, Writer.close)
+        self.seen.update(kinds.of_closing(before, self.line[:length], given))
+        self.tell_call("closed", before, given, register)
 
     def big_room(self, index, count, kind, seed):
         count = min(count, len(self.room) - index)
@@ -168,6 +178,7 @@ class Play:
     def tell_call(self, name, before, given, register):
         system, mode = self.states[WRITER][:2]
         self.seen.update(kinds.of_rest(name, before, given))
+        self.seen.update(kinds.of_crc(name, before, given))
         self.seen[name, "system", system, given] += 1
         self.seen[name, "mode", mode, given] += 1
         self.rows.append([name, given, register])

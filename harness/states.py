@@ -23,7 +23,8 @@ def to_numbers(state):
     if isinstance(state, Reader):
         five = of_phase(state.phase)
     else:
-        five = [0] if state.rest is None else [1, *state.rest]
+        five = [0, 0, 0, 0] if state.rest is None else [1, *state.rest]
+        five.append(state.crc)
     five += [0] * (5 - len(five))
     return [state.system, state.mode, *held(state.last), *held(state.place), *five, *state.settings]
 
@@ -46,4 +47,5 @@ def to_reader(scope, numbers):
 def to_writer(scope, numbers):
     writer = fill(Writer(scope, *numbers[:2]), numbers)
     writer.rest = tuple(numbers[7:10]) if numbers[6] else None
+    writer.crc = numbers[10]
     return writer

@@ -70,11 +70,11 @@ def before_zeros(c, k):
     return c
 
 
-def whole_bytes(words):
-    """The bits of the words, B0 first, as whole bytes, and the register to start from.
+def whole_bytes(words, register=ALL_ONES):
+    """The bits of the words, B0 first, as whole bytes, and the register to start from, so that they are taken on from that register.
 
     The two programs take bytes, and ten bits a word are not always whole bytes. So k zero bits go in FRONT, and the
-    start is the register that these zeros turn into all ones. Only the start is made here; every bit of the list
+    start is the register that these zeros turn into the one asked for. Only the start is made here; every bit of the list
     goes through the other program.
     """
     number = 0
@@ -82,7 +82,7 @@ def whole_bytes(words):
         number |= (w & 0x3FF) << 10 * i
     bits = 10 * len(words)
     k = -bits % 8
-    return (number << k).to_bytes((bits + k) // 8, "little"), before_zeros(ALL_ONES, k)
+    return (number << k).to_bytes((bits + k) // 8, "little"), before_zeros(register, k)
 
 
 def mirrored(c):
@@ -90,10 +90,16 @@ def mirrored(c):
     return int(format(c, "018b")[::-1], 2)
 
 
+def taken_on(register, words):
+    """The register after the words, from any register, by crccheck."""
+    b, start = whole_bytes(words, register)
+    # width, polynomial, start, reflected in, reflected out, no final inversion
+    return Crc(18, 0x31, mirrored(start), True, True, 0).process(b).final()
+
+
 def by_python(lists):
     """The register after each list of words, by crccheck."""
-    # width, polynomial, start, reflected in, reflected out, no final inversion
-    return [Crc(18, 0x31, mirrored(start), True, True, 0).process(b).final() for b, start in map(whole_bytes, lists)]
+    return [taken_on(ALL_ONES, words) for words in lists]
 
 
 def by_perl(lists):

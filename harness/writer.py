@@ -1,6 +1,6 @@
 """The writer of 01, written from 01 and not from our code."""
 from course import MOST, Course
-from words import VARIABLE, block_words, byte_form, crc_of, opened_line, settings_fault, word_of
+from words import ALL_ONES, FILLER, VARIABLE, block_words, byte_form, crc_words, opened_line, settings_fault, taken_on, word_of
 
 DONE, UNFINISHED = 0, 100
 
@@ -9,9 +9,10 @@ class Writer(Course):
     """A call gives DONE (adding: finished), UNFINISHED, or the number of a refusal."""
 
     rest = None  # an unfinished block: type, n, words laid
+    crc = ALL_ONES  # of the area words laid in this line
 
     def impossible(self):
-        if self.impossible_with(self.rest is not None):
+        if self.impossible_with(self.rest is not None) or self.crc > ALL_ONES:
             return True
         if self.rest is None:
             return False
@@ -36,7 +37,7 @@ class Writer(Course):
         if self.place is not None or (self.rest and (values != self.settings or number != self.next_number())):
             return 20
         line[:] = opened_line(self.scope, self.system, f, v, number, values)
-        self.last, self.settings, self.place = number, values, 0
+        self.last, self.settings, self.place, self.crc = number, values, 0, ALL_ONES
         return DONE
 
     def ill_shaped(self, kind, n):
@@ -75,6 +76,7 @@ class Writer(Course):
         words = whole[laid:][: end - self.place]
         line[start + self.place : start + self.place + len(words)] = words
         self.place += len(words)
+        self.crc = taken_on(self.crc, words)
         laid += len(words)
         self.rest = None if laid == len(whole) else (kind, len(values), laid)
         return UNFINISHED if self.rest else DONE
@@ -89,6 +91,7 @@ class Writer(Course):
         if self.rest and self.place < end:
             return 20
         if self.settings[3] == 1:
-            line[-2:] = crc_of(line[start:-2])
-        self.place = None
+            left = len(line) - 2 - start - self.place
+            line[-2:] = crc_words(taken_on(self.crc, [FILLER] * left))
+        self.place, self.crc = None, ALL_ONES
         return DONE

@@ -93,9 +93,9 @@ pub check-leaves-13 : (line : List ℕ) → checkedOf 1 9 line .fault ≡ 13 →
 check-leaves-13 line is = demand-1 .check-leaves 1 9 line 13 is (omega arith)
 
 -- ---- the writer of system 1 in 9-bit mode
--- after line 7, with 50 words laid of a block of type 5 with 100 values
+-- after line 7, with 50 words laid of a block of type 5 with 100 values, and a CRC of 18 bits, right or wrong
 abbrev pub halfway : Settings → Place → Writer
-halfway s place = record { system = 1; mode = 9; last = Number 7; settings = s; place = place; rest = Part 5 100 50 }
+halfway s place = record { system = 1; mode = 9; last = Number 7; settings = s; place = place; rest = Part 5 100 50; crc = 0x2A5A5 }
 
 -- 20: a line is open
 pub open-20 : (s : Settings) (f v : Bool) (t : Settings) (line : List ℕ) → ((n : ℕ) → n < 20 → holdsAt n (openFaults (halfway s (At 3)) 8 t (length line)) ≡ false)

@@ -1,4 +1,4 @@
--- Each field of the demands, cited at an instance that a weaker field would not give. The types are written out: what the fields say by names of
+-- Each field of the demands and of the running CRC, cited at an instance that a weaker field would not give. The types are written out: what the fields say by names of
 -- specs/Demand2.antt and specs/Demand3.antt stands here in the words of the crates below, so that a weaker meaning of a name is noticed too.
 -- Assumes nothing.
 use Prim.Native.Nat.{ℕ, _+_, _-_, _≤_, _<_}
@@ -7,21 +7,24 @@ use mathlib.Core.List.{List, [], _∷_, _++_, map}
 use mathlib.Core.Logic.{inl, inr}
 use mathlib.Core.Path.{_≡_, refl, sym, ap, ap₂, _∙_, subst}
 use native.Mathlib.Omega.{arith}
-use lib.Dec.{eqb}
+use lib.Dec.{eqb, lit<}
 use lib.ListN.{length, take, drop}
 use Rattle.lists.specs.Tests.{pick}
 use Rattle.lists.specs.Lists.{part}
 use Rattle.lists.proofs.Tests.{true-false}
+use Rattle.words.specs.Crc.{crcOf}
 use Rattle.words.specs.Modes.{isMode}
+use Rattle.words.proofs.CrcLaws.{crc-none}
 use Rattle.line.specs.declared.settings.Settings.{Settings}
 use Rattle.line.specs.Systems.{systemOf, isSystem}
 use Rattle.line.specs.Settings.{Held, settingsFault}
 use Rattle.line.specs.Fixed.{isVariable, sizeOf, placesOf}
 use Rattle.line.specs.Header.{headerWords}
-use Rattle.line.specs.Layout.{areaLength, lineWords, areaOf}
+use Rattle.line.specs.Layout.{payloadAt, areaLength, lineWords, areaOf}
 use Rattle.line.specs.Check.{numberOf, settingsOf, fitsLength, lineFault}
 use Rattle.course.specs.declared.Last.{Last}
 use Rattle.course.specs.declared.Last.the-variants.{Unknown, Number}
+use Rattle.course.specs.declared.Place.{Place}
 use Rattle.course.specs.declared.Place.the-variants.{Shut, At}
 use Rattle.course.specs.Course.{isAt, placeOf, nextNumber, blocksEnd}
 use Rattle.machine.specs.declared.phase.Phase.{Phase}
@@ -37,7 +40,7 @@ use Rattle.writer.specs.Block.{wordsIn}
 use Rattle.writer.specs.Opening.{opening}
 use Rattle.writer.specs.Adding.{addFault}
 use Rattle.writer.specs.Closing.{closing}
-use Rattle.writer.specs.Filling.{Written, areaFrom, pieceOf, joined, asLaid}
+use Rattle.writer.specs.Filling.{Filling, Written, areaFrom, pieceOf, joined, asLaid}
 use Rattle.writer.proofs.Keeps.{open-clear, open-leaves}
 use Rattle.writer.proofs.Refusals.{can-open}
 use Rattle.writer.proofs.Stays.{open-possible}
@@ -50,16 +53,18 @@ use Rattle.reader.specs.Jump.{jumpFrom}
 use Rattle.reader.specs.Reading.{Reply as Answered, goesOn, begun, readFault, reading}
 use Rattle.reader.specs.Lending.{isBegun}
 use Rattle.demands.specs.All.{All}
-use Rattle.demands.specs.Sending.{Call, Block, Piece, Complete, Sent, Desk, start, sentFresh, blocksOf, joinedPieces}
+use Rattle.demands.specs.Sending.{Call, Block, Piece, Complete, Sent, Desk, start, after, sentFresh, blocksOf, joinedPieces}
 use Rattle.demands.specs.Lent.{Unchanged, lentFresh}
 use Rattle.demands.specs.Writable.{OpenedWith, NumbersFrom, Packed, Writes, TypeHeld, Closable}
 use Rattle.demands.specs.Hearing.{Heard, is-refused, is-begun, is-block, is-end, Lends, Reads, Readable, handedOut}
 use Rattle.demands.specs.Damage.{Fate, remain, RefusedIfReplaced, longestRun, keptAt, survivors}
 use Rattle.demands.specs.Demand2.{IsLine, HasBlocks, StandsOn, IsPlaced, givenBack}
 use Rattle.demands.specs.Demand3.{Consecutive, Transmission}
+use Rattle.demands.specs.Running.{deskAfter}
 use Rattle.demands.proofs.Unrefused.{fits-by, open-long}
 use Rattle.demands.proofs.Demand2Holds.{demand-2}
 use Rattle.demands.proofs.Demand3Holds.{demand-3}
+use Rattle.demands.proofs.RunningHolds.{running}
 
 -- ---- demand 2
 -- `lines`: the first line of system 1 in 8-bit mode, and the second of system 3 in 9-bit mode
@@ -266,6 +271,28 @@ rewritten-1-9 = demand-2 .rewritten 1 9
 
 pub rewritten-2-8 : (line : List ℕ) → lineFault 2 8 line ≡ 0 → part 4 53 line ≡ headerWords (numberOf line) (settingsOf line)
 rewritten-2-8 = demand-2 .rewritten 2 8
+
+-- ---- the running CRC
+-- `kept`: behind two calls, with five words laid on a line of system 3 in 9-bit mode; and with no line open, in system 1
+pub kept-3-9 : (a b : Call) → let d = after (after (start 3 9) a) b in d .writer .place ≡ At 5 → d .writer .crc ≡ crcOf 262143 (take 5 (drop 384 (d .now .words)))
+unfolding deskAfter
+kept-3-9 a b at =
+    let d = after (after (start 3 9) a) b in
+    running .kept 3 9 (a ∷ b ∷ []) ∙ ap (λ (p : Place). crcOf 262143 (take (placeOf p) (drop 384 (d .now .words)))) at
+
+pub kept-none : (a b : Call) → let d = after (after (start 1 8) a) b in d .writer .place ≡ Shut → d .writer .crc ≡ 262143
+unfolding deskAfter
+kept-none a b shut =
+    let d = after (after (start 1 8) a) b in
+    running .kept 1 8 (a ∷ b ∷ []) ∙ ap (λ (p : Place). crcOf 262143 (take (placeOf p) (drop 288 (d .now .words)))) shut ∙ crc-none 262143 (lit< tt)
+
+-- `any-line`: with flag 00h, whatever number was stored before
+pub any-kept : (w : Writer) (f v : Bool) (n : ℕ) (t : Settings) (lent : List ℕ) (w′ : Writer) (line : List ℕ) (ps : List (List ℕ)) → Held t → t .flag ≡ 0
+    → opening w f v n t lent .answer ≡ Done → Filling (opening w f v n t lent .state) (opening w f v n t lent .line) w′ line ps → w .system ≡ 2 → w′ .place ≡ At 7
+    → w′ .crc ≡ crcOf 262143 (take 7 (drop 368 line))
+any-kept w f v n t lent w′ line ps held flag done calls system at =
+    running .any-line w f v n t lent w′ line ps held done calls
+    ∙ ap₂ (λ (s : ℕ) (p : Place). crcOf 262143 (part (payloadAt (systemOf s)) (placeOf p) line)) system at
 
 -- ---- demand 3
 -- `handed`: of a 625-line system, in both modes, from no more than the four conditions

@@ -3,7 +3,7 @@
 use Prim.Native.Nat.{ℕ, _<_}
 use mathlib.Core.Bool.{true, false}
 use mathlib.Core.List.{List, [], _∷_, map}
-use mathlib.Core.Path.{_≡_, refl, sym, _∙_}
+use mathlib.Core.Path.{_≡_, refl, sym, ap, _∙_, subst}
 use native.Mathlib.Omega.{arith}
 use lib.Dec.{lit<}
 use lib.IntN.{pos}
@@ -12,7 +12,7 @@ use Rattle.lists.specs.Tests.{pick}
 use Rattle.lists.proofs.Tests.{true-false}
 use Rattle.words.specs.Forms.{byteWord}
 use Rattle.words.specs.Modes.{isMode, values, wordOf}
-use Rattle.words.specs.Crc.{crcWords}
+use Rattle.words.specs.Crc.{crcOf, crcWords}
 use Rattle.line.specs.declared.settings.Settings.{Settings}
 use Rattle.line.specs.Systems.{isSystem}
 use Rattle.line.specs.Timing.{timingWords}
@@ -42,6 +42,8 @@ use Rattle.demands.specs.Demand2.{givenBack}
 use Rattle.demands.specs.Demand3.{Consecutive, Transmission}
 use Rattle.demands.proofs.Demand2Holds.{demand-2}
 use Rattle.demands.proofs.Demand3Holds.{demand-3}
+use Rattle.demands.proofs.FrameCourse.{head-of, piece as frame-piece, block-of}
+use Rattle.demands.proofs.FrameNeeded.{mixed, mixes-them, all-values}
 
 -- ---- for both
 -- settings of system 0 with that block type and flag
@@ -64,7 +66,7 @@ piece i ws = record { line = i; words = ws }
 
 -- the lines that calls on a fresh writer close: this names all that is unfolded to compute them
 sent : ℕ → ℕ → List Call → List Sent
-unfolding settings blank byteWord wordOf isMode values crcWords isSystem timingWords blockRefused settingsFault settingsFaults sameSettings numberWords settingsBytes settingsWords summedWords headerWords areaLength endWords framed fitsLength nextNumber blocksEnd offGrid impossible wordsIn openBlocked openFault openWords opening valued illShaped addFault adding closeFault sealed closing pieceOf after sends sentBy
+unfolding settings blank byteWord wordOf isMode values crcOf crcWords isSystem timingWords blockRefused settingsFault settingsFaults sameSettings numberWords settingsBytes settingsWords summedWords headerWords areaLength endWords framed fitsLength nextNumber blocksEnd offGrid impossible wordsIn openBlocked openFault openWords opening valued illShaped addFault adding closeFault sealed closing pieceOf after sends sentBy
 sent system mode cs = sentFresh system mode cs
 
 -- 01's numbers for the answers of calls, one after another: nothing for done; 0 1 for finished and 0 0 for unfinished; else the refusal's number
@@ -139,7 +141,8 @@ two-heard-once =
     let x = demand-2 .readable 0 8 two-lines (replicate 16384 0) in
     two-heard-by-all (replicate 16384 0) (length-replicate {A = ℕ} 16384 0) (x .heard) (x .reads)
 
--- ---- demand 3: system 0, 9 bits, variable lines of flag 01h: lines 523, 524, 525, 1 and 2
+-- ---- demand 3: system 0, 9 bits, variable lines of flag 01h: lines 523, 524, 525, 1 and 2. No line is full, because the CRC of each word
+-- laid is computed here.
 guarded : Settings
 guarded = settings 0xC1 1
 
@@ -147,26 +150,22 @@ line : ℕ → Call
 unfolding guarded
 line n = opens false false n guarded (held 0xC1 1 (lit< tt) (lit< tt)) blank
 
--- the values of a block of 1439 words: the area has 1438, so it runs over the end of a line wherever it begins
-over : ℕ → List ℕ
-over v = replicate 1432 v
-
 pub five-lines : List Call
-unfolding line over
+unfolding line
 five-lines =
-    line 523 ∷ adds 1 (0 ∷ 255 ∷ 1 ∷ []) ∷ adds 2 (over 257) ∷ closes
-    ∷ line 524 ∷ adds 2 (over 257) ∷ adds 3 [] ∷ adds 4 (over 4) ∷ closes
-    ∷ line 525 ∷ adds 4 (over 4) ∷ adds 5 (5 ∷ []) ∷ closes
-    ∷ line 1 ∷ adds 6 (over 6) ∷ closes
-    ∷ line 2 ∷ adds 6 (over 6) ∷ adds 7 (511 ∷ 7 ∷ []) ∷ closes
+    line 523 ∷ adds 1 (0 ∷ 255 ∷ 1 ∷ []) ∷ adds 2 (257 ∷ []) ∷ closes
+    ∷ line 524 ∷ adds 3 [] ∷ closes
+    ∷ line 525 ∷ adds 4 (4 ∷ 4 ∷ []) ∷ adds 5 (5 ∷ []) ∷ closes
+    ∷ line 1 ∷ adds 6 (6 ∷ []) ∷ closes
+    ∷ line 2 ∷ adds 7 (511 ∷ 7 ∷ []) ∷ closes
     ∷ []
 
 pub five-answers : answers 0 9 five-lines
-    ≡ [] ∷ (0 ∷ 1 ∷ []) ∷ (0 ∷ 0 ∷ []) ∷ []
-    ∷ [] ∷ (0 ∷ 1 ∷ []) ∷ (0 ∷ 1 ∷ []) ∷ (0 ∷ 0 ∷ []) ∷ []
+    ≡ [] ∷ (0 ∷ 1 ∷ []) ∷ (0 ∷ 1 ∷ []) ∷ []
+    ∷ [] ∷ (0 ∷ 1 ∷ []) ∷ []
     ∷ [] ∷ (0 ∷ 1 ∷ []) ∷ (0 ∷ 1 ∷ []) ∷ []
-    ∷ [] ∷ (0 ∷ 0 ∷ []) ∷ []
-    ∷ [] ∷ (0 ∷ 1 ∷ []) ∷ (0 ∷ 1 ∷ []) ∷ []
+    ∷ [] ∷ (0 ∷ 1 ∷ []) ∷ []
+    ∷ [] ∷ (0 ∷ 1 ∷ []) ∷ []
     ∷ []
 unfolding sent answers five-lines
 five-answers = refl
@@ -177,7 +176,7 @@ five-numbers = refl
 
 -- each block's type, and the lines on which its pieces lie, the first line being 0
 pub five-pieces : map (λ (b : Complete). b .block .kind ∷ map (λ (p : Piece). p .line) (b .pieces)) (blocksOf (sentFresh 0 9 five-lines))
-    ≡ (1 ∷ 0 ∷ []) ∷ (2 ∷ 0 ∷ 1 ∷ []) ∷ (3 ∷ 1 ∷ []) ∷ (4 ∷ 1 ∷ 2 ∷ []) ∷ (5 ∷ 2 ∷ []) ∷ (6 ∷ 3 ∷ 4 ∷ []) ∷ (7 ∷ 4 ∷ []) ∷ []
+    ≡ (1 ∷ 0 ∷ []) ∷ (2 ∷ 0 ∷ []) ∷ (3 ∷ 1 ∷ []) ∷ (4 ∷ 2 ∷ []) ∷ (5 ∷ 2 ∷ []) ∷ (6 ∷ 3 ∷ []) ∷ (7 ∷ 4 ∷ []) ∷ []
 unfolding sent five-lines
 five-pieces = refl
 
@@ -185,9 +184,9 @@ five-pieces = refl
 pub fates : List Fate
 fates = kept ∷ kept ∷ removed ∷ replaced blank ∷ kept ∷ []
 
--- the blocks 4, 5 and 6 are lost: 4 began on a kept line, and 6 ends on one
+-- the blocks 4, 5 and 6 are lost
 abbrev pub left : List Block
-left = block 1 (0 ∷ 255 ∷ 1 ∷ []) ∷ block 2 (replicate 1432 257) ∷ block 3 [] ∷ block 7 (511 ∷ 7 ∷ []) ∷ []
+left = block 1 (0 ∷ 255 ∷ 1 ∷ []) ∷ block 2 (257 ∷ []) ∷ block 3 [] ∷ block 7 (511 ∷ 7 ∷ []) ∷ []
 
 pub five-survivors : survivors (keptAt fates) (blocksOf (sentFresh 0 9 five-lines)) ≡ left
 unfolding sent five-lines fates
@@ -231,33 +230,13 @@ one-set : All (λ (s : Sent). s .settings ≡ guarded) (sentFresh 0 9 five-lines
 unfolding sent five-lines guarded
 one-set = (refl, (refl, (refl, (refl, (refl, tt)))))
 
+-- where no block is unfinished, none has to be lent again
+none-again : {A B : Type 0} → A → false ≡ true → B
+none-again c p = absurd (true-false (sym p))
+
 unchanged : Unchanged (start 0 9) five-lines
 unfolding sent five-lines Unchanged
-unchanged = (
-  (λ c p. absurd (true-false (sym p))),
-  (
-    (λ c p. absurd (true-false (sym p))),
-    (
-      (λ c p. refl),
-      (
-        (λ c p. absurd (true-false (sym p))),
-        (
-          (λ c p. absurd (true-false (sym p))),
-          (
-            (λ c p. refl),
-            (
-              (λ c p. absurd (true-false (sym p))),
-              (
-                (λ c p. absurd (true-false (sym p))),
-                ((λ c p. refl), ((λ c p. absurd (true-false (sym p))), tt)),
-              ),
-            ),
-          ),
-        ),
-      ),
-    ),
-  ),
-)
+unchanged = (none-again, (none-again, (none-again, (none-again, (none-again, (none-again, (none-again, tt)))))))
 
 pub five-lent : survivors (keptAt fates) (lentFresh 0 9 five-lines) ≡ left
 unfolding sent five-lines fates lentBy
@@ -267,3 +246,43 @@ pub five-as-demanded : (room : List ℕ) → length room ≡ capacity → (hs : 
 unfolding guarded settings
 five-as-demanded room long hs r =
     demand-3 .as-demanded 0 9 guarded five-lines fates (record { variable = refl; one-set = one-set; unchanged = unchanged; transmission = transmission }) room long hs r ∙ five-lent
+
+-- ---- demand 3, a block over two lines: system 0, 8 bits, 1,500 values on lines 1 and 2, by the laws of such lines (proofs/FrameCourse.antt)
+abbrev ones : List ℕ
+ones = replicate 1500 1
+
+-- what the calls send, lent a line of zeros
+abbrev zeros-long : length (replicate {A = ℕ} 1716 0) ≡ 1716
+zeros-long = length-replicate {A = ℕ} 1716 0
+
+abbrev pub over-two : List Call
+over-two = mixed (replicate 1716 0) zeros-long (replicate 1500 1) (replicate 1500 1) (all-values 1 refl) (all-values 1 refl)
+
+-- with these fates of the two lines, these blocks are handed out
+over-by : (fs : List Fate) (bs : List Block) → length fs ≡ 2 → longestRun fs < 525 → All (RefusedIfReplaced 0 8) fs
+    → survivors (keptAt fs) (block-of 1 (frame-piece 0 (head-of ones) ∷ []) ones ones ∷ []) ≡ bs
+    → (room : List ℕ) → length room ≡ capacity → (hs : List Heard) → Reads (fresh 0 8) room (remain fs (sentFresh 0 8 over-two)) hs → handedOut hs ≡ bs
+unfolding nextNumber pick
+over-by fs bs two runs refusing e room long hs r =
+    let x = mixes-them (replicate 1716 0) zeros-long ones ones (all-values 1 refl) (all-values 1 refl) in
+    demand-3 .handed 0 8 over-two fs
+    (record { numbers = subst (Consecutive 525) (sym (x .is)) (refl, tt); each-line = two ∙ ap length (sym (x .is)); runs = runs; refusing = refusing })
+    room long hs r
+    ∙ ap (λ (ss : List Sent). survivors (keptAt fs) (blocksOf ss)) (x .is)
+    ∙ e
+
+-- both kept: the block; the second or the first removed: none
+pub over-kept : (room : List ℕ) → length room ≡ capacity → (hs : List Heard) → Reads (fresh 0 8) room (remain (kept ∷ kept ∷ []) (sentFresh 0 8 over-two)) hs
+    → handedOut hs ≡ block 1 (replicate 1500 1) ∷ []
+unfolding pick
+over-kept = over-by (kept ∷ kept ∷ []) (block 1 ones ∷ []) refl (lit< tt) (tt, (tt, tt)) refl
+
+pub over-cut : (room : List ℕ) → length room ≡ capacity → (hs : List Heard) → Reads (fresh 0 8) room (remain (kept ∷ removed ∷ []) (sentFresh 0 8 over-two)) hs
+    → handedOut hs ≡ []
+unfolding pick
+over-cut = over-by (kept ∷ removed ∷ []) [] refl (lit< tt) (tt, (tt, tt)) refl
+
+pub over-headless : (room : List ℕ) → length room ≡ capacity → (hs : List Heard) → Reads (fresh 0 8) room (remain (removed ∷ kept ∷ []) (sentFresh 0 8 over-two)) hs
+    → handedOut hs ≡ []
+unfolding pick
+over-headless = over-by (removed ∷ kept ∷ []) [] refl (lit< tt) (tt, (tt, tt)) refl

@@ -11,6 +11,7 @@ use lib.ListN.{length, length-append}
 use borrow.Author.Tests.{leb-true, not-false}
 use Rattle.lists.specs.Tests.{pick}
 use Rattle.lists.proofs.Tests.{true-false, or-right, pick-true}
+use Rattle.words.specs.Crc.{crcStart}
 use Rattle.line.specs.declared.settings.Settings.{Settings}
 use Rattle.line.specs.Systems.{systemOf, isSystem}
 use Rattle.line.proofs.SystemLaws.{sound}
@@ -72,7 +73,8 @@ module _ (system mode : ℕ) (d : Desk) (ok : DeskOk system mode d) (done : clos
   finds = can-close (d .writer) (d .now .words) (close-clear (d .writer) (d .now .words) done)
 
   leaves : closing (d .writer) (d .now .words)
-      ≡ left Done (moved (d .writer) Shut (d .writer .rest)) (sealed (systemOf (d .writer .system)) (d .writer .settings .flag) (d .now .words))
+      ≡ left Done (moved (d .writer) Shut (d .writer .rest) crcStart)
+      (sealed (systemOf (d .writer .system)) (d .writer .settings .flag) (placeOf (d .writer .place)) (d .writer .crc) (d .now .words))
   leaves = close-leaves (d .writer) (d .now .words) (close-clear (d .writer) (d .now .words) done)
 
   now-open : OpenNow system mode d

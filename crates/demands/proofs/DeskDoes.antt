@@ -34,6 +34,7 @@ pub record Quiet (told : Bool) (d : Desk) (w : Writer) (ws : List ℕ) : Type 0 
   pub settings : w .settings ≡ d .writer .settings
   pub place : w .place ≡ d .writer .place
   pub rest : w .rest ≡ d .writer .rest
+  pub crc : w .crc ≡ d .writer .crc
   pub possible : impossible (d .writer) ≡ false → impossible w ≡ false
   pub still : (system mode : ℕ)
       → Open system mode (d .now .f) (d .now .v) (d .now .number) (d .now .settings) (joined (d .now .pieces)) (d .writer) (d .now .words)
@@ -56,7 +57,7 @@ pub data Does (told : Bool) (d : Desk) : Call → Desk → List Sent → Type 0 
 refused : (told : Bool) (d : Desk) (c : Call) → Does told d c d []
 refused told d c =
     is-quiet (d .writer) (d .now .words)
-    (record { of-system = refl; of-mode = refl; last = λ z. refl; open-last = λ z. refl; settings = refl; place = refl; rest = refl; possible = λ p. p; still = λ system mode o. o })
+    (record { of-system = refl; of-mode = refl; last = λ z. refl; open-last = λ z. refl; settings = refl; place = refl; rest = refl; crc = refl; possible = λ p. p; still = λ system mode o. o })
 
 pub does : (told : Bool) (d : Desk) (c : Call) → Does told d c (after d c) (sends d c)
 unfolding sends

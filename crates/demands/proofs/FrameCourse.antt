@@ -13,6 +13,7 @@ use borrow.Author.Tests.{le-leb, lt-ltb}
 use Rattle.lists.specs.Tests.{pick}
 use Rattle.lists.proofs.Tests.{and-true, pick-true, pick-false}
 use Rattle.words.specs.Modes.{isMode}
+use Rattle.words.specs.Crc.{crcStart, crcOf}
 use Rattle.line.specs.declared.settings.Settings.{Settings}
 use Rattle.line.specs.Systems.{systemOf, isSystem}
 use Rattle.line.specs.Settings.{Held, settingsFaults, settingsFault, sameSettings}
@@ -75,11 +76,15 @@ unfolding blocksEnd areaLength pick
 area-is = refl
 
 -- ---- a desk
-abbrev pub writer : Last → Settings → Place → Rest → Writer
-writer l u p r = record { system = 0; mode = 8; last = l; settings = u; place = p; rest = r }
+abbrev pub writer : Last → Settings → Place → Rest → ℕ → Writer
+writer l u p r c = record { system = 0; mode = 8; last = l; settings = u; place = p; rest = r; crc = c }
+
+-- with that CRC, and where no word is laid
+abbrev pub deskOf : ℕ → Last → Settings → Place → Rest → Sent → ℕ → List ℕ → List Piece → Desk
+deskOf c l u p r s i vs ps = record { writer = writer l u p r c; now = s; closed = i; values = vs; pieces = ps }
 
 abbrev pub desk : Last → Settings → Place → Rest → Sent → ℕ → List ℕ → List Piece → Desk
-desk l u p r s i vs ps = record { writer = writer l u p r; now = s; closed = i; values = vs; pieces = ps }
+desk l u p r s i vs ps = deskOf crcStart l u p r s i vs ps
 
 -- a line of these settings, F and V 0
 abbrev pub sent : ℕ → List (List ℕ) → List Complete → List ℕ → Sent
@@ -128,7 +133,7 @@ module _ (lent : List ℕ) (lent-long : length lent ≡ 1716) where
   opening-of n = opens false false n one-set set-held lent
 
   module _ (l : Last) (u : Settings) (r : Rest) (s : Sent) (i : ℕ) (vs : List ℕ) (ps : List Piece) (n : ℕ) (ok : DeskOk 0 8 (desk l u Shut r s i vs ps))
-      (range : (leb 1 n && leb n 525) ≡ true) (free : openBlocked (writer l u Shut r) n one-set ≡ false) where
+      (range : (leb 1 n && leb n 525) ≡ true) (free : openBlocked (writer l u Shut r crcStart) n one-set ≡ false) where
     abbrev opened : Desk
     opened = desk (Number n) one-set (At 0) r (sent n [] [] (openWords 0 false false n one-set)) i vs ps
 
@@ -148,25 +153,25 @@ module _ (lent : List ℕ) (lent-long : length lent ≡ 1716) where
     open-sends cs = ap (λ (d : Desk). sentBy d cs) open-is
 
 -- ---- a line closed
-module _ (n p : ℕ) (r : Rest) (qs : List (List ℕ)) (bs : List Complete) (ws : List ℕ) (i : ℕ) (vs : List ℕ) (ps : List Piece)
-    (ok : DeskOk 0 8 (desk (Number n) one-set (At p) r (sent n qs bs ws) i vs ps)) (none-left : (isPart r && not (isFull 1440 (At p))) ≡ false) where
+module _ (n p : ℕ) (r : Rest) (c : ℕ) (qs : List (List ℕ)) (bs : List Complete) (ws : List ℕ) (i : ℕ) (vs : List ℕ) (ps : List Piece)
+    (ok : DeskOk 0 8 (deskOf c (Number n) one-set (At p) r (sent n qs bs ws) i vs ps)) (none-left : (isPart r && not (isFull 1440 (At p))) ≡ false) where
   abbrev before : Desk
-  before = desk (Number n) one-set (At p) r (sent n qs bs ws) i vs ps
+  before = deskOf c (Number n) one-set (At p) r (sent n qs bs ws) i vs ps
 
   -- its words
   shut : List ℕ
-  shut = closing (writer (Number n) one-set (At p) r) ws .line
+  shut = closing (writer (Number n) one-set (At p) r c) ws .line
 
-  free-now : closeFault (writer (Number n) one-set (At p) r) (length ws) ≡ 0
+  free-now : closeFault (writer (Number n) one-set (At p) r c) (length ws) ≡ 0
   free-now =
-      close-free (writer (Number n) one-set (At p) r) (length ws) (fits-by (length ws) (open-long before ok refl)) (ok .possible)
+      close-free (writer (Number n) one-set (At p) r c) (length ws) (fits-by (length ws) (open-long before ok refl)) (ok .possible)
       (ap (λ (m : ℕ). isPart r && not (isFull m (At p))) area-is ∙ none-left)
 
-  leaves : closing (writer (Number n) one-set (At p) r) ws .state ≡ writer (Number n) one-set Shut r
-  leaves = ap (λ (y : Left). y .state) (close-leaves (writer (Number n) one-set (At p) r) ws free-now)
+  leaves : closing (writer (Number n) one-set (At p) r c) ws .state ≡ writer (Number n) one-set Shut r crcStart
+  leaves = ap (λ (y : Left). y .state) (close-leaves (writer (Number n) one-set (At p) r c) ws free-now)
 
-  done : closing (writer (Number n) one-set (At p) r) ws .answer ≡ Done
-  done = ap (λ (y : Left). y .answer) (close-leaves (writer (Number n) one-set (At p) r) ws free-now)
+  done : closing (writer (Number n) one-set (At p) r c) ws .answer ≡ Done
+  done = ap (λ (y : Left). y .answer) (close-leaves (writer (Number n) one-set (At p) r c) ws free-now)
 
   close-is : after before closes ≡ desk (Number n) one-set Shut r (sent n qs bs shut) (suc i) vs ps
   unfolding shut
@@ -177,11 +182,11 @@ module _ (n p : ℕ) (r : Rest) (qs : List (List ℕ)) (bs : List Complete) (ws 
   close-ok : DeskOk 0 8 (desk (Number n) one-set Shut r (sent n qs bs shut) (suc i) vs ps)
   close-ok = subst (DeskOk 0 8) close-is (after-ok 0 8 before closes ok)
 
-  close-sends : (cs : List Call) → sentBy (desk (Number n) one-set (At p) r (sent n qs bs ws) i vs ps) (closes ∷ cs)
+  close-sends : (cs : List Call) → sentBy (deskOf c (Number n) one-set (At p) r (sent n qs bs ws) i vs ps) (closes ∷ cs)
       ≡ sent n qs bs shut ∷ sentBy (desk (Number n) one-set Shut r (sent n qs bs shut) (suc i) vs ps) cs
   unfolding sentBy sends shut
   close-sends cs =
-      let x = closing (writer (Number n) one-set (At p) r) ws in
+      let x = closing (writer (Number n) one-set (At p) r c) ws in
       ap (λ (a : Answer). sendsBy a x before ++ sentBy (after before closes) cs) done
       ∙ ap {B = List Sent} (λ (d : Desk). sent n qs bs shut ∷ sentBy d cs) close-is
 
@@ -221,7 +226,7 @@ not-full = ap (λ (m : ℕ). isFull m (At 0)) area-is
 -- ---- the first line of a block: it is filled
 module _ (n : ℕ) (ws : List ℕ) (i : ℕ) (vs : List ℕ) (v : Values vs) (ok : DeskOk 0 8 (desk (Number n) one-set (At 0) NoBlock (sent n [] [] ws) i [] [])) where
   abbrev w : Writer
-  w = writer (Number n) one-set (At 0) NoBlock
+  w = writer (Number n) one-set (At 0) NoBlock crcStart
 
   abbrev fresh-line : Desk
   fresh-line = desk (Number n) one-set (At 0) NoBlock (sent n [] [] ws) i [] []
@@ -235,10 +240,12 @@ module _ (n : ℕ) (ws : List ℕ) (i : ℕ) (vs : List ℕ) (v : Values vs) (ok
   head-more : eqb (fitting w (todo w 1 vs)) (length (todo w 1 vs)) ≡ false
   head-more = ap₂ eqb head-room (words-are vs v)
 
-  head-leaves : adding w ws 1 vs .state ≡ writer (Number n) one-set (At 1440) (Part 1 1500 1440)
+  head-leaves : adding w ws 1 vs .state ≡ writer (Number n) one-set (At 1440) (Part 1 1500 1440) (crcOf crcStart (head-of vs))
   head-leaves =
       ap (λ (x : Added). x .state) (add-leaves w ws 1 vs head-free)
-      ∙ ap₂ (λ (k : ℕ) (r : Rest). moved w (At (0 + k)) r) head-room (pick-false _ _ head-more ∙ ap₂ (λ (m k : ℕ). Part 1 m (0 + k)) (v .long) head-room)
+      ∙ ap₂ (λ (k : ℕ) (r : Rest). moved w (At (0 + k)) r (crcOf crcStart (take (fitting w (todo w 1 vs)) (todo w 1 vs)))) head-room
+      (pick-false _ _ head-more ∙ ap₂ (λ (m k : ℕ). Part 1 m (0 + k)) (v .long) head-room)
+      ∙ ap (λ (l : List ℕ). writer (Number n) one-set (At 1440) (Part 1 1500 1440) (crcOf crcStart l)) (ap₂ take head-room (block-is vs))
 
   head-answer : adding w ws 1 vs .answer ≡ Unfinished
   head-answer = ap (λ (x : Added). x .answer) (add-leaves w ws 1 vs head-free) ∙ pick-false _ _ head-more
@@ -247,10 +254,10 @@ module _ (n : ℕ) (ws : List ℕ) (i : ℕ) (vs : List ℕ) (v : Values vs) (ok
   head-piece = piece-laid w ws 1 vs head-free ∙ ap₂ take head-room (block-is vs)
 
   head-line : List ℕ
-  head-line = adding (writer (Number n) one-set (At 0) NoBlock) ws 1 vs .line
+  head-line = adding (writer (Number n) one-set (At 0) NoBlock crcStart) ws 1 vs .line
 
   head-is : after fresh-line (adds 1 vs)
-      ≡ desk (Number n) one-set (At 1440) (Part 1 1500 1440) (sent n (head-of vs ∷ []) [] head-line) i vs (piece i (head-of vs) ∷ [])
+      ≡ deskOf (crcOf crcStart (head-of vs)) (Number n) one-set (At 1440) (Part 1 1500 1440) (sent n (head-of vs ∷ []) [] head-line) i vs (piece i (head-of vs) ∷ [])
   unfolding head-line
   head-is =
       after-unfinished fresh-line 1 vs head-answer
@@ -261,7 +268,7 @@ module _ (n : ℕ) (ws : List ℕ) (i : ℕ) (vs : List ℕ) (v : Values vs) (ok
 module _ (n : ℕ) (ws : List ℕ) (i : ℕ) (us vs : List ℕ) (ps : List Piece) (v : Values vs)
     (ok : DeskOk 0 8 (desk (Number n) one-set (At 0) (Part 1 1500 1440) (sent n [] [] ws) i us ps)) where
   abbrev w′ : Writer
-  w′ = writer (Number n) one-set (At 0) (Part 1 1500 1440)
+  w′ = writer (Number n) one-set (At 0) (Part 1 1500 1440) crcStart
 
   abbrev owing-line : Desk
   owing-line = desk (Number n) one-set (At 0) (Part 1 1500 1440) (sent n [] [] ws) i us ps
@@ -280,21 +287,22 @@ module _ (n : ℕ) (ws : List ℕ) (i : ℕ) (us vs : List ℕ) (ps : List Piece
   tail-all : eqb (fitting w′ (todo w′ 1 vs)) (length (todo w′ 1 vs)) ≡ true
   tail-all = ap₂ eqb tail-room tail-long
 
-  tail-leaves : adding w′ ws 1 vs .state ≡ writer (Number n) one-set (At 67) NoBlock
-  tail-leaves =
-      ap (λ (x : Added). x .state) (add-leaves w′ ws 1 vs tail-free)
-      ∙ ap₂ (λ (k : ℕ) (r : Rest). moved w′ (At (0 + k)) r) tail-room (pick-true _ _ tail-all)
-
   tail-answer : adding w′ ws 1 vs .answer ≡ Finished
   tail-answer = ap (λ (x : Added). x .answer) (add-leaves w′ ws 1 vs tail-free) ∙ pick-true _ _ tail-all
 
   tail-piece : pieceOf w′ ws 1 vs ≡ tail-of vs
   tail-piece = all-laid w′ ws 1 vs tail-free tail-answer ∙ ap (drop 1440) (block-is vs)
 
-  tail-line : List ℕ
-  tail-line = adding (writer (Number n) one-set (At 0) (Part 1 1500 1440)) ws 1 vs .line
+  tail-leaves : adding w′ ws 1 vs .state ≡ writer (Number n) one-set (At 67) NoBlock (crcOf crcStart (tail-of vs))
+  tail-leaves =
+      ap (λ (x : Added). x .state) (add-leaves w′ ws 1 vs tail-free)
+      ∙ ap₂ (λ (k : ℕ) (r : Rest). moved w′ (At (0 + k)) r (crcOf crcStart (take (fitting w′ (todo w′ 1 vs)) (todo w′ 1 vs)))) tail-room (pick-true _ _ tail-all)
+      ∙ ap (λ (l : List ℕ). writer (Number n) one-set (At 67) NoBlock (crcOf crcStart l)) (sym (piece-laid w′ ws 1 vs tail-free) ∙ tail-piece)
 
-  tail-is : after owing-line (adds 1 vs) ≡ desk (Number n) one-set (At 67) NoBlock (sent n (tail-of vs ∷ []) (block-of i ps us vs ∷ []) tail-line) i [] []
+  tail-line : List ℕ
+  tail-line = adding (writer (Number n) one-set (At 0) (Part 1 1500 1440) crcStart) ws 1 vs .line
+
+  tail-is : after owing-line (adds 1 vs) ≡ deskOf (crcOf crcStart (tail-of vs)) (Number n) one-set (At 67) NoBlock (sent n (tail-of vs ∷ []) (block-of i ps us vs ∷ []) tail-line) i [] []
   unfolding tail-line
   tail-is =
       after-finished owing-line 1 vs tail-answer
@@ -318,12 +326,12 @@ unfolding sentBy sends
 add-sends d d′ vs cs e = ap (λ (x : Desk). sentBy x cs) e
 
 -- nothing owing: any number may come
-any-number : (l : Last) (u : Settings) (n : ℕ) → openBlocked (writer l u Shut NoBlock) n one-set ≡ false
+any-number : (l : Last) (u : Settings) (n : ℕ) → openBlocked (writer l u Shut NoBlock crcStart) n one-set ≡ false
 unfolding openBlocked
 any-number l u n = refl
 
 -- the second line has number 2 where the first has number 1
-next-number : openBlocked (writer (Number 1) one-set Shut (Part 1 1500 1440)) 2 one-set ≡ false
+next-number : openBlocked (writer (Number 1) one-set Shut (Part 1 1500 1440) crcStart) 2 one-set ≡ false
 unfolding openBlocked sameSettings nextNumber pick
 next-number = refl
 
@@ -358,9 +366,9 @@ module _ (lent : List ℕ) (lent-long : length lent ≡ 1716) where
       let ws = openWords 0 false false n one-set in
       let ok₁ = open-ok lent lent-long l u NoBlock s i [] [] n ok range free in
       record {
-        words = shut n 0 NoBlock [] [] ws i [] [] ok₁ refl;
-        is = λ cs. open-sends lent lent-long l u NoBlock s i [] [] n ok range free (closes ∷ cs) ∙ close-sends n 0 NoBlock [] [] ws i [] [] ok₁ refl cs;
-        ok = close-ok n 0 NoBlock [] [] ws i [] [] ok₁ refl;
+        words = shut n 0 NoBlock crcStart [] [] ws i [] [] ok₁ refl;
+        is = λ cs. open-sends lent lent-long l u NoBlock s i [] [] n ok range free (closes ∷ cs) ∙ close-sends n 0 NoBlock crcStart [] [] ws i [] [] ok₁ refl cs;
+        ok = close-ok n 0 NoBlock crcStart [] [] ws i [] [] ok₁ refl;
       }
 
   pub head-sent : (l : Last) (u : Settings) (s : Sent) (i n : ℕ) (vs : List ℕ) → Values vs → DeskOk 0 8 (desk l u Shut NoBlock s i [] []) → (leb 1 n && leb n 525) ≡ true
@@ -374,14 +382,15 @@ module _ (lent : List ℕ) (lent-long : length lent ≡ 1716) where
       let ws₂ = head-line n ws i vs v ok₁ in
       let qs = head-of vs ∷ [] in
       let ps = piece i (head-of vs) ∷ [] in
-      let d₂ = desk (Number n) one-set (At 1440) (Part 1 1500 1440) (sent n qs [] ws₂) i vs ps in
+      let c = crcOf crcStart (head-of vs) in
+      let d₂ = deskOf c (Number n) one-set (At 1440) (Part 1 1500 1440) (sent n qs [] ws₂) i vs ps in
       let is₂ = head-is n ws i vs v ok₁ in
       let ok₂ = subst (DeskOk 0 8) is₂ (after-ok 0 8 d₁ (adds 1 vs) ok₁) in
       record {
-        words = shut n 1440 (Part 1 1500 1440) qs [] ws₂ i vs ps ok₂ refl;
+        words = shut n 1440 (Part 1 1500 1440) c qs [] ws₂ i vs ps ok₂ refl;
         is = λ cs. open-sends lent lent-long l u NoBlock s i [] [] n ok range free (adds 1 vs ∷ closes ∷ cs) ∙ add-sends d₁ d₂ vs (closes ∷ cs) is₂
-            ∙ close-sends n 1440 (Part 1 1500 1440) qs [] ws₂ i vs ps ok₂ refl cs;
-        ok = close-ok n 1440 (Part 1 1500 1440) qs [] ws₂ i vs ps ok₂ refl;
+            ∙ close-sends n 1440 (Part 1 1500 1440) c qs [] ws₂ i vs ps ok₂ refl cs;
+        ok = close-ok n 1440 (Part 1 1500 1440) c qs [] ws₂ i vs ps ok₂ refl;
       }
 
   pub tail-sent : (s : Sent) (i : ℕ) (us vs : List ℕ) (ps : List Piece) → Values vs → DeskOk 0 8 (desk (Number 1) one-set Shut (Part 1 1500 1440) s i us ps)
@@ -395,14 +404,15 @@ module _ (lent : List ℕ) (lent-long : length lent ≡ 1716) where
       let ws₂ = tail-line 2 ws i us vs ps v ok₁ in
       let qs = tail-of vs ∷ [] in
       let bs = block-of i ps us vs ∷ [] in
-      let d₂ = desk (Number 2) one-set (At 67) NoBlock (sent 2 qs bs ws₂) i [] [] in
+      let c = crcOf crcStart (tail-of vs) in
+      let d₂ = deskOf c (Number 2) one-set (At 67) NoBlock (sent 2 qs bs ws₂) i [] [] in
       let is₂ = tail-is 2 ws i us vs ps v ok₁ in
       let ok₂ = subst (DeskOk 0 8) is₂ (after-ok 0 8 d₁ (adds 1 vs) ok₁) in
       record {
-        words = shut 2 67 NoBlock qs bs ws₂ i [] [] ok₂ refl;
+        words = shut 2 67 NoBlock c qs bs ws₂ i [] [] ok₂ refl;
         is = λ cs. open-sends lent lent-long (Number 1) one-set part s i us ps 2 ok refl next-number (adds 1 vs ∷ closes ∷ cs) ∙ add-sends d₁ d₂ vs (closes ∷ cs) is₂
-            ∙ close-sends 2 67 NoBlock qs bs ws₂ i [] [] ok₂ refl cs;
-        ok = close-ok 2 67 NoBlock qs bs ws₂ i [] [] ok₂ refl;
+            ∙ close-sends 2 67 NoBlock c qs bs ws₂ i [] [] ok₂ refl cs;
+        ok = close-ok 2 67 NoBlock c qs bs ws₂ i [] [] ok₂ refl;
       }
 
   -- ---- lines without a block, one after another

@@ -19,7 +19,7 @@ use Rattle.course.specs.Course.{nextNumber}
 use Rattle.writer.specs.declared.state.Rest.the-variants.{NoBlock}
 use Rattle.writer.specs.Adding.{valued}
 use Rattle.writer.specs.Filling.{asLaid}
-use Rattle.writer.proofs.Framing.{take-filler, drop-filler}
+use Rattle.lists.proofs.Lists.{take-filler, drop-filler}
 use Rattle.writer.proofs.Legal.{each-filler}
 use Rattle.reader.specs.State.{capacity, fresh}
 use Rattle.demands.specs.All.{All}
@@ -104,15 +104,15 @@ module _ (lent : List ℕ) (lent-long : length lent ≡ 1716) (a b : List ℕ) (
       sends-by x m (block-sent lent lent-long (Number 525) one-set (m .last-one) 525 b b vb vb (m .ok))
 
   -- ---- another course: the first line of the first block, and the second line of the other
-  mixed : List Call
+  pub mixed : List Call
   mixed = block-line lent 1 a (block-line lent 2 b [])
 
-  record Mixes : Type 0 where
-    w₀ : List ℕ
-    w₁ : List ℕ
-    is : sentFresh 0 8 mixed ≡ first-of a w₀ ∷ (second-of 0 a b w₁ ∷ [])
+  pub record Mixes : Type 0 where
+    pub w₀ : List ℕ
+    pub w₁ : List ℕ
+    pub is : sentFresh 0 8 mixed ≡ first-of a w₀ ∷ (second-of 0 a b w₁ ∷ [])
 
-  mixes-them : Mixes
+  pub mixes-them : Mixes
   unfolding mixed
   mixes-them =
       let x = block-sent lent lent-long Unknown noSettings (start 0 8 .now) 0 a b va vb (start-ok 0 8) in

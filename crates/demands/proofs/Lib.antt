@@ -34,6 +34,7 @@ pub mod Writable
 pub mod Closing
 pub mod Demand1Holds
 pub mod Demand2Holds
+pub mod RunningHolds
 pub mod FrameCourse
 pub mod FrameNeeded
 pub mod AsLent

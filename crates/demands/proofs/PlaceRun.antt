@@ -11,7 +11,7 @@ use lib.ListN.{length, getD, take, drop, replicate, length-drop, length-map}
 use lib.Seq.{take-at, drop-at, take-take}
 use borrow.Author.Tests.{ltb-true}
 use Rattle.lists.specs.Tests.{pick}
-use Rattle.lists.proofs.Lists.{map-back}
+use Rattle.lists.proofs.Lists.{map-back, take-filler, drop-filler}
 use Rattle.words.specs.Forms.{isByte, isData, byteWord}
 use Rattle.words.specs.Modes.{values, wordOf, valueOf}
 use Rattle.words.specs.Class.{classOf}
@@ -27,7 +27,6 @@ use Rattle.writer.specs.Block.{fixedWords}
 use Rattle.writer.specs.Adding.{valued}
 use Rattle.writer.specs.Filling.{joined}
 use Rattle.writer.proofs.Legal.{byte-any}
-use Rattle.writer.proofs.Framing.{take-filler, drop-filler}
 use Rattle.demands.specs.Hearing.{Heard, is-block}
 use Rattle.demands.proofs.Run.{metHeard, placeTo, placeOut, placesTo, placesOut}
 use Rattle.demands.proofs.DeskOk.{AllLong}

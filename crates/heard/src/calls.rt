@@ -8,6 +8,7 @@ use crate::states;
 use crate::steps;
 use crate::told;
 use reader::read;
+use words::crc;
 use writer::adding;
 use writer::closing;
 use writer::opening;
@@ -85,12 +86,51 @@ pub(crate) fn open_fresh(ns: &[u64], wr: &mut [u64; 52], hd: &mut [u64; 52], lin
     open(b"", steps::at(ns, 0), steps::at(ns, 1), wr, hd, line);
 }
 
-// `close`, row `close ANSWER REGISTER`; `Close LENGTH`, row `closed ANSWER REGISTER`.
-pub(crate) fn close(name: &[u8], wr: &mut [u64; 52], line: &mut [u16]) {
+// Closes the line: ANSWER.
+fn close(wr: &mut [u64; 52], line: &mut [u16]) -> u64 {
     let r = closing::close_line(states::writer_of(wr), line);
     let answer = r.answer;
     kept::keep_writer(wr, r.state);
-    put_row(name, number_of(answer), line);
+    number_of(answer)
+}
+
+// The words of a payload whose CRC is to be put right: 0 with flag 00h, or where the line was not closed.
+fn payload_of(wr: &[u64; 52], answer: u64) -> usize {
+    if answer != 0 || wr[14] != 1 {
+        return 0;
+    }
+    let s = line::systems::system_of(states::byte(wr[0]));
+    s.payload
+}
+
+// The CRC of the area as the line has it, into the last two words.
+fn mend(payload: usize, line: &mut [u16]) {
+    let n = line.len();
+    if payload < 2 {
+        return;
+    }
+    if n < payload {
+        return;
+    }
+    let a = n - payload;
+    let e = n - 2;
+    let two = crc::crc_words(crc::crc_of(crc::CRC_START, &line[a..e]));
+    line[e] = two[0];
+    line[e + 1] = two[1];
+}
+
+// `Close LENGTH`, row `closed ANSWER REGISTER`.
+pub(crate) fn close_by(wr: &mut [u64; 52], line: &mut [u16]) {
+    let answer = close(wr, line);
+    put_row(b"closed", answer, line);
+}
+
+// `close`, row `close ANSWER REGISTER`: words that other steps laid the writer knows nothing of, so that with flag 01h the CRC is then put right.
+pub(crate) fn close_laid(wr: &mut [u64; 52], line: &mut [u16]) {
+    let answer = close(wr, line);
+    let payload = payload_of(wr, answer);
+    mend(payload, line);
+    put_row(b"close", answer, line);
 }
 
 // `Add LENGTH TYPE COUNT`, row `added ANSWER REGISTER`: the values are the first COUNT words of the room.

@@ -32,10 +32,10 @@ fn numbers_of_phase(phase: Phase) -> [u64; 5] {
     }
 }
 
-fn numbers_of_rest(rest: Rest) -> [u64; 5] {
+fn numbers_of_rest(rest: Rest, crc: u64) -> [u64; 5] {
     match rest {
-        Rest::NoBlock => [0, 0, 0, 0, 0],
-        Rest::Part { kind, count, laid } => [1, kind as u64, count as u64, laid as u64, 0],
+        Rest::NoBlock => [0, 0, 0, 0, crc],
+        Rest::Part { kind, count, laid } => [1, kind as u64, count as u64, laid as u64, crc],
     }
 }
 
@@ -113,7 +113,7 @@ pub(crate) fn keep_writer(s: &mut [u64; 52], w: Writer) {
         w.mode,
         numbers_of_last(last),
         place,
-        numbers_of_rest(rest),
+        numbers_of_rest(rest, w.crc as u64),
     );
     keep_settings(s, settings);
 }

@@ -23,8 +23,8 @@ fn write(
         b'o' => calls::open_fresh(ns, wr, hd, part),
         b'O' => calls::open(b"opened", steps::at(ns, 1), steps::at(ns, 2), wr, hd, part),
         b'A' => calls::add(ns, wr, part, room),
-        b'c' => calls::close(b"close", wr, part),
-        b'C' => calls::close(b"closed", wr, part),
+        b'c' => calls::close_laid(wr, part),
+        b'C' => calls::close_by(wr, part),
         _ => shown::header(ns, hd),
     }
 }

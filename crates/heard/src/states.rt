@@ -1,7 +1,7 @@
 // A state as 52 numbers, so that a step can put it into any value, possible or not, and a row can show all of it:
 // 0 system, 1 mode, 2 whether there is a last number, 3 that number, 4 whether a line is begun (open), 5 the place in it;
 // 6 to 10 the reader's phase: 0 idle, 1 type awaited, 2 to 5 a count byte awaited with type and bytes so far, 6 data with type,
-// announced and collected; of the writer 6 to 9 whether a block is unfinished, and its type, n and words laid;
+// announced and collected; of the writer 6 to 9 whether a block is unfinished, and its type, n and words laid, and 10 the CRC of this line;
 // 11 code, 12 AAI, 13 block type, 14 flag, 15 to 30 destination, 31 to 46 source, 47 to 51 reserved.
 // What is not held is 0 in a state that a call left. A heading has the same form, and only its settings count.
 use course::Last;
@@ -138,5 +138,6 @@ pub(crate) fn writer_of(s: &[u64; 52]) -> Writer {
         settings: settings,
         place: place,
         rest: rest,
+        crc: (s[10] % 4294967296) as u32,
     }
 }

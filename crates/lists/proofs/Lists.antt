@@ -4,10 +4,10 @@ use mathlib.Core.Path.{_≡_, refl, sym, ap, ap₂, _∙_, subst}
 use mathlib.Core.Bool.{Bool, true, _&&_}
 use mathlib.Core.List.{List, [], _∷_, _++_, map}
 use Prim.Native.Nat.{ℕ, zero, suc, _+_, _-_, _<_, _≤_}
-use native.Mathlib.Nat.{zero-add, suc-add, add-suc, add-zero, le-of-suc-le-suc, not-suc-le-zero}
+use native.Mathlib.Nat.{zero-add, suc-add, add-suc, add-zero, sub-zero, zero-sub, suc-sub-suc, le-of-suc-le-suc, not-suc-le-zero}
 use native.Mathlib.Omega.{arith}
 use lib.Dec.{T, eqb}
-use lib.ListN.{length, getD, take, drop, length-take, length-drop}
+use lib.ListN.{length, getD, take, drop, replicate, length-take, length-drop}
 use lib.Seq.{take-add, take-take, drop-drop, take-at, drop-at, drop-cons, getD-take, getD-drop}
 use borrow.Author.Tests.{eqb-true, eq-eqb}
 use Rattle.lists.specs.Lists.{part, same, each}
@@ -134,3 +134,14 @@ getD-tabulate i (suc n) f (suc k) h = getD-tabulate (suc i) n f k (le-of-suc-le-
 
 pub at-table : (n : ℕ) (f : ℕ → ℕ) (k : ℕ) → k < n → getD (tabulate 0 n f) k 0 ≡ f k
 at-table n f k h = getD-tabulate 0 n f k h ∙ ap f (zero-add k)
+
+-- ---- one word many times
+pub take-filler : (k m x : ℕ) → k ≤ m → take k (replicate m x) ≡ replicate k x
+take-filler zero m x h = refl
+take-filler (suc k) zero x h = absurd (omega arith)
+take-filler (suc k) (suc m) x h = ap (λ (l : List ℕ). x ∷ l) (take-filler k m x (omega arith))
+
+pub drop-filler : (k m x : ℕ) → drop k (replicate m x) ≡ replicate (m - k) x
+drop-filler zero m x = ap (λ (n : ℕ). replicate n x) (sym (sub-zero m))
+drop-filler (suc k) zero x = ap (λ (n : ℕ). replicate n x) (sym (zero-sub (suc k)))
+drop-filler (suc k) (suc m) x = drop-filler k m x ∙ ap (λ (n : ℕ). replicate n x) (sym (suc-sub-suc m k))

@@ -31,8 +31,16 @@ pub(crate) fn by_words() -> Asked {
     }
 }
 
-// The k-th of 24: writing, reading and checking, the four jobs, both modes.
+// The k-th of 28: writing, reading and checking, the four jobs, both modes; then the two jobs of closing alone.
 pub(crate) fn nth(k: u8) -> Asked {
+    if 24 <= k {
+        return Asked {
+            what: b'w',
+            job: b'e' + k / 2 % 2,
+            mode: 8 + k % 2,
+            rounds: 2,
+        };
+    }
     let mut what = b'w';
     if k / 8 == 1 {
         what = b'r';

@@ -1,5 +1,5 @@
 // What the jobs write: a variable blocks of 10,000 values, flag 01h; b of 100 values; c fixed blocks 21h, flag 00h; d filler lines,
-// flag 01h.
+// flag 01h; e filler lines closed again and again, f lines full of a's blocks closed again and again.
 use line::settings::Settings;
 ghost use mathlib.Core.Path.{_≡_};
 ghost use Prim.Native.Nat.{_≤_};
@@ -10,7 +10,7 @@ pub(crate) fn count_of(job: u8) -> usize
     ensures { λ r. ⌜ r ≤ 10000 ⌝ }
 {
     match job {
-        b'a' => 10000,
+        b'a' | b'f' => 10000,
         b'b' => 100,
         b'c' => 4,
         _ => 0,

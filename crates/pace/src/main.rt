@@ -1,6 +1,6 @@
 // Writes, checks and reads lines of system 0 in memory, for measuring: `pace WHAT JOB MODE ROUNDS`, WHAT being write, read or check. A
 // round is eight lines. Prints the CRC register after all words of the last eight lines, and a digest of what was read or checked;
-// bench/twin.c does the same jobs in C and prints the same. With no words each job is done twice.
+// bench/twin.c does the same jobs in C and prints the same. With no words each job is done twice. Jobs e and f close alone, and are written alone.
 mod jobs; // jobs.rt: what the jobs write
 mod writes; // writes.rt: eight lines written
 mod reads; // reads.rt: eight lines read or checked
@@ -65,7 +65,7 @@ fn run(a: Asked, batch: &mut [u16; 13728], room: &mut [u16; 16384]) {
 // Every job, twice.
 fn run_all(batch: &mut [u16; 13728], room: &mut [u16; 16384]) {
     let mut k = 0u8;
-    while k < 24 {
+    while k < 28 {
         run(asked::nth(k), batch, room);
         k += 1;
     }

@@ -1,4 +1,5 @@
-// Eight lines written: each is opened, filled with blocks and closed.
+// Eight lines written: each is opened, filled with blocks and closed. In jobs e and f only the first is opened and filled, once, and each is
+// closed in the state that the first was in.
 use crate::jobs;
 use writer::adding;
 use writer::closing;
@@ -20,10 +21,10 @@ fn is_finished(answer: Laid) -> bool {
     }
 }
 
-// Blocks until the line is full; job d has none.
+// Blocks until the line is full; jobs d and e have none.
 fn fill(w: Writer, job: u8, block: &[u16], line: &mut [u16]) -> Writer {
     let mut now = w;
-    let mut more = job != b'd';
+    let mut more = job != b'd' && job != b'e';
     let mut calls = 0u32;
     while calls < 300 && more {
         let told = adding::add_block(now, 7, block, line);
@@ -35,12 +36,56 @@ fn fill(w: Writer, job: u8, block: &[u16], line: &mut [u16]) -> Writer {
     now
 }
 
+// A line opened and filled; in jobs e and f the first alone.
+fn ready(kept: Kept, job: u8, block: &[u16], line: &mut [u16]) -> Writer {
+    let w = kept.writer;
+    let place = w.place;
+    if course::is_at(place) {
+        return w;
+    }
+    let opened = opening::open_line(w, false, false, kept.number, jobs::settings_of(job), line);
+    fill(opened.state, job, block, line)
+}
+
+// The register whose two words are a line's last.
+fn register_in(line: &[u16]) -> u32 {
+    let n = line.len();
+    if n < 2 {
+        return 0;
+    }
+    let low = line[n - 2] % 512;
+    let high = line[n - 1] % 512;
+    low as u32 + high as u32 * 512
+}
+
+// The state before the closing, with the CRC that the line got: so no closing can be left out.
+fn again(w: Writer, line: &[u16]) -> Writer {
+    let last = w.last;
+    let settings = w.settings;
+    let place = w.place;
+    let rest = w.rest;
+    Writer {
+        system: w.system,
+        mode: w.mode,
+        last: last,
+        settings: settings,
+        place: place,
+        rest: rest,
+        crc: register_in(line),
+    }
+}
+
 fn write_line(kept: Kept, job: u8, block: &[u16], line: &mut [u16]) -> Kept {
     let n = kept.number;
-    let opened = opening::open_line(kept.writer, false, false, n, jobs::settings_of(job), line);
-    let w = fill(opened.state, job, block, line);
+    let w = ready(kept, job, block, line);
     let closed = closing::close_line(w, line);
     let after = closed.state;
+    if job == b'e' || job == b'f' {
+        return Kept {
+            writer: again(w, line),
+            number: n,
+        };
+    }
     Kept {
         writer: after,
         number: course::next_number(525, n),

@@ -8,7 +8,7 @@ use native.Mathlib.Omega.{arith}
 use lib.Dec.{lit<}
 use lib.Pow.{mod-mod-pow}
 use lib.Bits.{bitXor, xor-lt, xor-mod}
-use lib.ListN.{length, drop, getD, take-append-drop}
+use lib.ListN.{length, drop, getD, replicate, take-append-drop, replicate-append-replicate}
 use lib.Seq.{drop-drop}
 use Rattle.lists.specs.Lists.{part}
 use Rattle.lists.proofs.Loops.{next-drop}
@@ -60,6 +60,10 @@ pub crc-part : (x i n : ℕ) (s : List ℕ) → crcOf (crcOf x (part i n s)) (dr
 crc-part x i n s =
     sym (crc-append x (part i n s) (drop (i + n) s))
     ∙ ap (crcOf x) (ap (λ (l : List ℕ). part i n s ++ l) (sym (drop-drop n i s)) ∙ take-append-drop n (drop i s))
+
+-- filler in two parts
+pub crc-fillers : (x n m w : ℕ) → crcOf (crcOf x (replicate n w)) (replicate m w) ≡ crcOf x (replicate (n + m) w)
+crc-fillers x n m w = sym (crc-append x (replicate n w) (replicate m w)) ∙ ap (crcOf x) (replicate-append-replicate n m w)
 
 -- ---- linear
 pub bit-linear : (c d a b : ℕ) → a < 2 → b < 2 → crcBit (bitXor c d) (bitXor a b) ≡ bitXor (crcBit c a) (crcBit d b)

@@ -11,7 +11,7 @@ use lib.Dec.{lit<, T}
 use lib.Arith.{lt-one, digits-lt, digits-div, digits-mod}
 use lib.Pow.{pow-pos, pow-add, split, shr-lt, shr-shr, field, mod-mod-pow}
 use lib.Bits.{bitXor, xor-comm, xor-zero-r, xor-shr, xor-mod, xor-shifted, shifted-half, shifted-even}
-use lib.ListN.{length, getD, drop, drop-of-length-le}
+use lib.ListN.{length, getD, drop, drop-of-length-le, replicate}
 use Rattle.lists.proofs.Loops.{next-drop}
 use Rattle.words.specs.Shifts.{fed, quietBit, quiet}
 use Rattle.words.specs.Crc.{lowBits, bitsOf, crcBit, crcBits, crcOf, taps}
@@ -180,3 +180,7 @@ module _ (c : ℕ) (s : List ℕ) (below : c < 2 ^ 18) (six : length s ≡ 6) (t
 
   pub six-words : quiet 60 (bitXor c (((t5 * 1024 + t4) * 1024 + t3) * 1073741824 + ((t2 * 1024 + t1) * 1024 + t0))) ≡ crcOf c s
   six-words = ap (λ (p : ℕ). quiet 60 (bitXor c p)) joined ∙ ap (λ (n : ℕ). quiet n (bitXor c (packed s))) (sym (tens-length s ∙ ap (λ (n : ℕ). 10 * n) six)) ∙ sym (crc-packed c s below)
+
+-- ---- six words of filler
+pub six-fillers : (c : ℕ) → c < 2 ^ 18 → quiet 60 (bitXor c 0x802008020080200) ≡ crcOf c (replicate 6 0x200)
+six-fillers c r = sym (crc-packed c (replicate 6 0x200) r)

@@ -3,7 +3,7 @@
 use crate::forms;
 ghost use mathlib.Core.Path.{_≡_};
 ghost use Prim.Native.Nat.{_%_, _^_, _<_};
-ghost use lib.ListN.{length};
+ghost use lib.ListN.{length, replicate};
 ghost use Rattle.words.specs.Shifts.{fed, quiet};
 ghost use Rattle.words.specs.Crc.{crcBits, crcOf, registerWords, lowBits};
 
@@ -81,6 +81,23 @@ pub fn crc_of(c: u32, s: &[u16]) -> u32
         i = e;
     }
     crc_each(x, &s[i..])
+}
+
+// Six words of filler side by side, the first lowest.
+const SIX_FILLERS: u64 = 0x802008020080200;
+
+// The register after n words of filler 200h, from the register c: six at a time, then what is left. No word is looked at.
+pub fn crc_filler(c: u32, n: usize) -> u32
+    ensures { λ r. ⌜ r ≡ crcOf c (replicate n 0x200) ⌝ }
+{
+    let mut x = c % 262144;
+    let mut left = n;
+    while 6 <= left {
+        x = after_sixty((x as u64) ^ SIX_FILLERS);
+        left -= 6;
+    }
+    let few = [0x200u16; 5];
+    crc_each(x, &few[..left])
 }
 
 // The two words of a register: C8-C0, then C17-C9.

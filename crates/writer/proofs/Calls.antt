@@ -7,18 +7,18 @@ use Prim.Native.Nat.{ℕ, _+_, _-_, _≤_, _<_, min}
 use native.Mathlib.Numerals.{add-one}
 use native.Mathlib.Omega.{arith}
 use lib.Dec.{eqb}
-use lib.ListN.{length, getD, set, take, drop, length-drop, drop-of-length-le}
+use lib.ListN.{length, getD, set, take, drop, replicate, length-drop, drop-of-length-le}
 use lib.Seq.{take-all, paste, sets-eq}
 use borrow.Author.Tests.{eq-eqb, ne-eqb}
 use borrow.Rule.Slice.PartMut.{putMid}
 use Rattle.lists.specs.Tests.{pick}
 use Rattle.lists.proofs.Tests.{pick-true, pick-false}
-use Rattle.words.specs.Crc.{crcOf, registerWords, crcWords}
+use Rattle.words.specs.Crc.{crcStart, crcOf, registerWords}
 use Rattle.line.specs.declared.systems.System.{System}
 use Rattle.course.specs.declared.Place.the-variants.{Shut, At}
 use Rattle.line.specs.Systems.{systemOf}
 use Rattle.line.specs.Fixed.{isVariable}
-use Rattle.line.specs.Layout.{payloadAt, areaLength, areaOf, endWords}
+use Rattle.line.specs.Layout.{payloadAt, areaLength}
 use Rattle.course.specs.Course.{placeOf}
 use Rattle.writer.specs.declared.state.Rest.{Rest}
 use Rattle.writer.specs.declared.state.Rest.the-variants.{NoBlock, Part}
@@ -31,7 +31,7 @@ use Rattle.writer.specs.State.{laidOf, endIn, moved}
 use Rattle.writer.specs.Block.{blockWords, fixedWords, wordsIn}
 use Rattle.writer.specs.Adding.{addFault, todo, fitting, adding}
 use Rattle.writer.specs.Closing.{closeFault, sealed, closing}
-use Rattle.writer.proofs.FillLaws.{mid-paste, part-whole}
+use Rattle.writer.proofs.FillLaws.{mid-paste, part-whole, piece-law}
 use Rattle.writer.proofs.BlockLaws.{words-variable, words-fixed, fixed-long, count, count-fixed, count-between, words-long}
 use Rattle.line.proofs.SystemLaws.{payload-most, length-most}
 use Rattle.writer.proofs.Refusals.{CanAdd, can-add}
@@ -46,28 +46,26 @@ last-two d e x y h =
     ∙ ap (λ (r : List ℕ). (take e d ++ (x ∷ y ∷ [])) ++ r) (drop-of-length-le d {i = e + 2} (omega arith))
     ∙ append-nil (take e d ++ (x ∷ y ∷ []))
 
--- what the CRC of the area is, and where it stands
-pub seal-is : (s : System) (flag : ℕ) (d two : List ℕ) (crc lo hi : ℕ) → flag ≡ 1 → s .payload + 61 ≤ s .length → 2 ≤ s .payload → s .length ≡ length d
-    → crc ≡ crcOf 262143 (take (s .length - 2 - (s .length - s .payload)) (drop (s .length - s .payload) d)) → two ≡ registerWords crc → lo ≡ getD two 0 0 → hi ≡ getD two 1 0
-    → set (set d (s .length - 2) lo) (s .length - 2 + 1) hi ≡ sealed s flag d
-unfolding sealed areaLength endWords areaOf crcWords
-seal-is s flag d two crc lo hi one room area long hc ht hlo hhi =
+-- what the stored CRC becomes over the filler that is left, and where it stands
+pub seal-is : (s : System) (flag place c : ℕ) (d two : List ℕ) (m crc lo hi : ℕ) → flag ≡ 1 → s .payload + 61 ≤ s .length → 2 ≤ s .payload
+    → s .length ≡ length d → m ≡ s .payload - 2 - place → crc ≡ crcOf c (replicate m 0x200) → two ≡ registerWords crc → lo ≡ getD two 0 0 → hi ≡ getD two 1 0
+    → set (set d (s .length - 2) lo) (s .length - 2 + 1) hi ≡ sealed s flag place c d
+unfolding sealed areaLength registerWords
+seal-is s flag place c d two m crc lo hi one room area long hl hc ht hlo hhi =
     let p = s .payload in
-    let a = s .length - p in
-    let m : s .length - 2 - a ≡ p - 2 = omega arith in
-    let e : s .length - 2 ≡ a + (p - 2) = omega arith in
+    let e : s .length - 2 ≡ payloadAt s + (p - 2) = omega arith in
     let n : length d ≡ s .length - 2 + 2 = omega arith in
     let short = pick-true (p - 2) p (eq-eqb flag 1 one) in
-    let c : crc ≡ crcOf 262143 (take (pick (eqb flag 1) (p - 2) p) (drop a d)) = hc ∙ ap (λ (x : ℕ). crcOf 262143 (take x (drop a d))) (m ∙ sym short) in
-    let t : two ≡ crcWords (take (pick (eqb flag 1) (p - 2) p) (drop a d)) = ht ∙ ap registerWords c in
+    let t : two ≡ registerWords (crcOf c (replicate (pick (eqb flag 1) (p - 2) p - place) 0x200)) =
+    ht ∙ ap registerWords (hc ∙ ap (λ (x : ℕ). crcOf c (replicate x 0x200)) (hl ∙ ap (λ (x : ℕ). x - place) (sym short))) in
     last-two d (s .length - 2) lo hi n
-    ∙ ap₂ (λ (x : ℕ) (r : List ℕ). take x d ++ r) (e ∙ ap (λ (x : ℕ). a + x) (sym short))
+    ∙ ap₂ (λ (x : ℕ) (r : List ℕ). take x d ++ r) (e ∙ ap (λ (x : ℕ). payloadAt s + x) (sym short))
     (ap₂ (λ (x y : ℕ). x ∷ y ∷ []) (hlo ∙ ap (λ (l : List ℕ). getD l 0 0) t) (hhi ∙ ap (λ (l : List ℕ). getD l 1 0) t) ∙ sym (pick-true _ [] (eq-eqb flag 1 one)))
 
 -- with another flag nothing is written
-pub seal-none : (s : System) (flag : ℕ) (d : List ℕ) → (flag ≡ 1 → ⊥) → s .payload + 61 ≤ s .length → s .length ≡ length d → d ≡ sealed s flag d
-unfolding sealed areaLength endWords
-seal-none s flag d other room long =
+pub seal-none : (s : System) (flag place c : ℕ) (d : List ℕ) → (flag ≡ 1 → ⊥) → s .payload + 61 ≤ s .length → s .length ≡ length d → d ≡ sealed s flag place c d
+unfolding sealed areaLength
+seal-none s flag place c d other room long =
     let all = pick-false (s .payload - 2) (s .payload) (ne-eqb flag 1 other) in
     let whole : length d ≤ payloadAt s + s .payload = omega arith in
     sym
@@ -80,8 +78,8 @@ module _ (w : Writer) (line : List ℕ) (fault : ℕ) (is : fault ≡ closeFault
   unfolding closing
   close-refused h = ap (λ (n : ℕ). left (Refused n) w line) is ∙ sym (pick-false _ _ (ne-eqb _ _ (λ e. h (is ∙ e))))
 
-  pub close-done : fault ≡ 0 → (st : Writer) (l : List ℕ) → st ≡ moved w Shut (w .rest) → l ≡ sealed (systemOf (w .system)) (w .settings .flag) line
-      → left Done st l ≡ closing w line
+  pub close-done : fault ≡ 0 → (st : Writer) (l : List ℕ) → st ≡ moved w Shut (w .rest) crcStart
+      → l ≡ sealed (systemOf (w .system)) (w .settings .flag) (placeOf (w .place)) (w .crc) line → left Done st l ≡ closing w line
   unfolding closing
   close-done h st l s e = ap₂ (left Done) s e ∙ sym (pick-true _ _ (eq-eqb _ _ (sym is ∙ h)))
 
@@ -114,7 +112,7 @@ pub record Sizes (p j k a kind n long total : ℕ) : Type 0 where
 abbrev leaves : Writer → List ℕ → ℕ → List ℕ → ℕ → ℕ → ℕ → ℕ → ℕ → Added
 leaves w line kind vs p j rest k a =
     added (pick (eqb k rest) Finished Unfinished)
-    (moved w (At (p + k)) (pick (eqb k rest) NoBlock (Part kind (length vs) (j + k))))
+    (moved w (At (p + k)) (pick (eqb k rest) NoBlock (Part kind (length vs) (j + k))) (crcOf (w .crc) (take k (drop j (wordsIn (w .settings .block) (w .mode) kind vs)))))
     (paste line a (drop j (wordsIn (w .settings .block) (w .mode) kind vs)) k)
 
 module _ {w : Writer} {line : List ℕ} {kind : ℕ} {vs : List ℕ} {p j rest k a : ℕ} (f : Found w line kind vs p j rest k a) where
@@ -142,19 +140,29 @@ module _ {w : Writer} {line : List ℕ} {kind : ℕ} {vs : List ℕ} {p j rest k
         number = can .number;
       }
 
-  add-done : (ys : List ℕ) (after : Rest) (answer : Laid) (st : Writer)
+  -- the words that stand at the place are those laid, and the CRC is taken on over them
+  laid-crc : (ys : List ℕ) (c : ℕ) → putMid a (a + k - a) line ys ≡ paste line a (drop j (wordsIn (w .settings .block) (w .mode) kind vs)) k
+      → c ≡ crcOf (w .crc) (take (a + k - a) (drop a (putMid a (a + k - a) line ys))) → c ≡ crcOf (w .crc) (take k (drop j (wordsIn (w .settings .block) (w .mode) kind vs)))
+  laid-crc ys c pasted hc =
+      let ws = drop j (wordsIn (w .settings .block) (w .mode) kind vs) in
+      let enough : k ≤ length ws = omega (arith, f .now, f .left, length-drop j (wordsIn (w .settings .block) (w .mode) kind vs), words-long (w .settings .block) (w .mode) kind vs) in
+      hc ∙ ap (crcOf (w .crc)) (ap (λ (l : List ℕ). take (a + k - a) (drop a l)) pasted ∙ piece-law line ws a a k (omega (arith, within)) enough)
+
+  add-done : (ys : List ℕ) (after : Rest) (c : ℕ) (answer : Laid) (st : Writer)
       → ys ≡ take (length (take (a + k - a) (drop a line))) (drop j (wordsIn (w .settings .block) (w .mode) kind vs))
-      → after ≡ pick (eqb k rest) NoBlock (Part kind (length vs) (j + k)) → answer ≡ pick (eqb k rest) Finished Unfinished
-      → st ≡ moved w (At (p + k)) after → added answer st (putMid a (a + k - a) line ys) ≡ adding w line kind vs
+      → after ≡ pick (eqb k rest) NoBlock (Part kind (length vs) (j + k)) → c ≡ crcOf (w .crc) (take (a + k - a) (drop a (putMid a (a + k - a) line ys)))
+      → answer ≡ pick (eqb k rest) Finished Unfinished
+      → st ≡ moved w (At (p + k)) after c → added answer st (putMid a (a + k - a) line ys) ≡ adding w line kind vs
   unfolding adding
-  add-done ys after answer st hy hr ht hs =
+  add-done ys after c answer st hy hr hc ht hs =
       let ws = todo w kind vs in
       let q = placeOf (w .place) in
       let i = laidOf (w .rest) in
       let g = leaves w line kind vs in
       let some : k ≡ fitting w ws = f .now ∙ ap₂ (λ (x y : ℕ). min (endIn w - x) y) (f .place) rest-is in
       let pasted = mid-paste line (drop j (wordsIn (w .settings .block) (w .mode) kind vs)) ys a k within hy in
-      let first : added answer st (putMid a (a + k - a) line ys) ≡ g p j rest k a = rw (hs, ht, hr, pasted) in
+      let taken = laid-crc ys c pasted hc in
+      let first : added answer st (putMid a (a + k - a) line ys) ≡ g p j rest k a = rw (hs, ht, hr, taken, pasted) in
       first
       ∙ ap (λ (x : ℕ). g x j rest k a) (f .place)
       ∙ ap (λ (x : ℕ). g q x rest k a) (f .laid)
@@ -165,12 +173,13 @@ module _ {w : Writer} {line : List ℕ} {kind : ℕ} {vs : List ℕ} {p j rest k
 
 -- ---- adding in a variable line
 pub part-done : {w : Writer} {line : List ℕ} {kind : ℕ} {vs : List ℕ} {p j rest k a : ℕ} → Found w line kind vs p j rest k a
-    → isVariable (w .settings .block) ≡ true → (ys : List ℕ) (after : Rest) (answer : Laid) (st : Writer)
+    → isVariable (w .settings .block) ≡ true → (ys : List ℕ) (after : Rest) (c : ℕ) (answer : Laid) (st : Writer)
     → ys ≡ take (length (take (a + k - a) (drop a line))) (drop j (blockWords (w .mode) kind vs))
-    → after ≡ pick (eqb k rest) NoBlock (Part kind (length vs) (j + k)) → answer ≡ pick (eqb k rest) Finished Unfinished → st ≡ moved w (At (p + k)) after
+    → after ≡ pick (eqb k rest) NoBlock (Part kind (length vs) (j + k)) → c ≡ crcOf (w .crc) (take (a + k - a) (drop a (putMid a (a + k - a) line ys)))
+    → answer ≡ pick (eqb k rest) Finished Unfinished → st ≡ moved w (At (p + k)) after c
     → added answer st (putMid a (a + k - a) line ys) ≡ adding w line kind vs
-part-done {w} {line} {kind} {vs} {p} {j} {rest} {k} {a} f v ys after answer st e =
-    add-done f ys after answer st
+part-done {w} {line} {kind} {vs} {p} {j} {rest} {k} {a} f v ys after c answer st e =
+    add-done f ys after c answer st
     (e ∙ ap (λ (l : List ℕ). take (length (take (a + k - a) (drop a line))) (drop j l)) (sym (words-variable (w .settings .block) (w .mode) kind vs v)))
 
 -- ---- adding in a fixed line: all words of the block are laid now
@@ -188,14 +197,15 @@ place-found w line kind vs clear v p a hp ha =
     }
 
 pub place-done : {w : Writer} {line : List ℕ} {kind : ℕ} {vs : List ℕ} {p a : ℕ} → Found w line kind vs p 0 (length vs + 1) (length vs + 1) a
-    → isVariable (w .settings .block) ≡ false → (ys : List ℕ) (st : Writer) → ys ≡ fixedWords (w .mode) kind vs
-    → st ≡ moved w (At (p + (length vs + 1))) NoBlock → added Finished st (putMid a (a + (length vs + 1) - a) line ys) ≡ adding w line kind vs
-place-done {w} {line} {kind} {vs} {p} {a} f v ys st e hs =
+    → isVariable (w .settings .block) ≡ false → (ys : List ℕ) (c : ℕ) (st : Writer) → ys ≡ fixedWords (w .mode) kind vs
+    → c ≡ crcOf (w .crc) (take (a + (length vs + 1) - a) (drop a (putMid a (a + (length vs + 1) - a) line ys)))
+    → st ≡ moved w (At (p + (length vs + 1))) NoBlock c → added Finished st (putMid a (a + (length vs + 1) - a) line ys) ≡ adding w line kind vs
+place-done {w} {line} {kind} {vs} {p} {a} f v ys c st e hc hs =
     let all = words-fixed (w .settings .block) (w .mode) kind vs v in
     let many = part-whole line a (length vs + 1) (sizes f .within) in
     let long = fixed-long (w .mode) kind vs in
     let k = length (take (a + (length vs + 1) - a) (drop a line)) in
     let whole = eq-eqb (length vs + 1) (length vs + 1) refl in
-    add-done f ys NoBlock Finished st
+    add-done f ys NoBlock c Finished st
     (e ∙ sym (take-all k (fixedWords (w .mode) kind vs) (omega (arith, many, long))) ∙ ap (take k) (sym all))
-    (sym (pick-true NoBlock (Part kind (length vs) (0 + (length vs + 1))) whole)) (sym (pick-true Finished Unfinished whole)) hs
+    (sym (pick-true NoBlock (Part kind (length vs) (0 + (length vs + 1))) whole)) hc (sym (pick-true Finished Unfinished whole)) hs

@@ -2,13 +2,13 @@
 -- Assumes nothing.
 use mathlib.Core.Path.{_≡_, refl, sym, ap, ap₂, _∙_}
 use mathlib.Core.Logic.{⊎-elim}
-use mathlib.Core.List.{List, [], _∷_, _++_, map}
+use mathlib.Core.List.{List, [], _∷_, _++_, map, append-assoc}
 use Prim.Native.Nat.{ℕ, zero, suc, _+_, _-_, _%_, _≤_, min}
 use native.Mathlib.Nat.{zero-sub, sub-zero, suc-sub-suc}
 use native.Mathlib.Omega.{arith}
 use lib.Dec.{eqb}
 use lib.ListN.{length, take, drop, length-take, length-drop, drop-of-length-le}
-use lib.Seq.{length-take-le, take-all, paste}
+use lib.Seq.{length-take-le, take-all, take-at, drop-at, paste}
 use borrow.Rule.Slice.PartMut.{putMid}
 use borrow.Author.Tests.{eq-eqb, ne-eqb}
 use Rattle.lists.specs.Tests.{pick}
@@ -137,3 +137,10 @@ pub part-whole : (d : List ℕ) (a k : ℕ) → a + k ≤ length d → length (t
 part-whole d a k h =
     let m : a + k - a ≡ k = omega arith in
     ap (λ (i : ℕ). length (take i (drop a d))) m ∙ length-take-le k (drop a d) (rw (length-drop a d) (omega arith))
+
+-- the piece of words pasted at their place
+pub piece-law : (l s : List ℕ) (a p k : ℕ) → a ≤ length l → k ≤ length s → take (p + k - p) (drop a (paste l a s k)) ≡ take k s
+piece-law l s a p k ha hk =
+    let m : p + k - p ≡ k = omega arith in
+    ap₂ take m (ap (drop a) (append-assoc (take a l) (take k s) (drop (a + k) l)) ∙ drop-at (take a l) (take k s ++ drop (a + k) l) a (length-take-le a l ha))
+    ∙ take-at (take k s) (drop (a + k) l) k (length-take-le k s hk)

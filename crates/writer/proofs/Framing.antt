@@ -3,35 +3,25 @@
 use mathlib.Core.Path.{_≡_, refl, sym, ap, ap₂, _∙_}
 use mathlib.Core.Bool.{Bool, true, false}
 use mathlib.Core.List.{List, _∷_, _++_, append-assoc}
-use Prim.Native.Nat.{ℕ, zero, suc, _+_, _-_, _≤_}
-use native.Mathlib.Nat.{sub-zero, zero-sub, suc-sub-suc}
+use Prim.Native.Nat.{ℕ, _+_, _-_, _≤_}
 use native.Mathlib.Omega.{arith}
 use lib.ListN.{length, take, drop, replicate, length-append}
-use lib.Seq.{paste, take-at, drop-at, take-append-add}
-use Rattle.lists.specs.Lists.{part}
-use Rattle.lists.proofs.Lists.{drop-behind}
+use lib.Seq.{paste, take-at, take-append-add}
+use Rattle.lists.proofs.Lists.{drop-behind, take-filler, drop-filler}
+use Rattle.words.specs.Crc.{crcStart, crcOf, crcWords}
+use Rattle.words.proofs.CrcLaws.{crc-append}
 use Rattle.line.specs.declared.systems.System.{System}
 use Rattle.line.specs.declared.settings.Settings.{Settings}
 use Rattle.line.specs.Timing.{timingWords}
 use Rattle.line.specs.Settings.{Held}
 use Rattle.line.specs.Header.{headerWords}
-use Rattle.line.specs.Layout.{payloadAt, gapAfter, areaLength, endWords, framed, lineWords, areaOf}
+use Rattle.line.specs.Layout.{payloadAt, gapAfter, areaLength, endWords, framed, lineWords}
 use Rattle.line.proofs.Headers.{header-length}
 use Rattle.line.proofs.GapLaws.{GapHolds, gap-long}
 use Rattle.line.proofs.Lines.{four}
-use Rattle.writer.specs.Closing.{sealed}
+use Rattle.writer.specs.Closing.{endBy, sealed}
 
--- ---- lists of filler
-pub take-filler : (k m x : ℕ) → k ≤ m → take k (replicate m x) ≡ replicate k x
-take-filler zero m x h = refl
-take-filler (suc k) zero x h = absurd (omega arith)
-take-filler (suc k) (suc m) x h = ap (λ (l : List ℕ). x ∷ l) (take-filler k m x (omega arith))
-
-pub drop-filler : (k m x : ℕ) → drop k (replicate m x) ≡ replicate (m - k) x
-drop-filler zero m x = ap (λ (n : ℕ). replicate n x) (sym (sub-zero m))
-drop-filler (suc k) zero x = ap (λ (n : ℕ). replicate n x) (sym (zero-sub (suc k)))
-drop-filler (suc k) (suc m) x = drop-filler k m x ∙ ap (λ (n : ℕ). replicate n x) (sym (suc-sub-suc m k))
-
+-- ---- filler
 -- a part of the filler behind a list
 pub take-behind : (a : List ℕ) (n m x : ℕ) → length a ≤ n → n ≤ length a + m → take n (a ++ replicate m x) ≡ a ++ replicate (n - length a) x
 take-behind a n m x h k =
@@ -77,13 +67,17 @@ pasted h a ws m x k le =
     ap (drop (length h + length a + k)) both ∙ drop-behind (h ++ a) (replicate m x) (length h + length a) k long ∙ drop-filler k m x in
     ap₂ (λ (p q : List ℕ). (p ++ take k ws) ++ q) before behind ∙ simp append-assoc
 
--- ---- closing: the area as the line has it, and its CRC behind it
-pub seals : (s : System) (f v : Bool) (n : ℕ) (t : Settings) (laid : List ℕ) (held : Held t) (room : s .payload + 61 ≤ s .length) (holds : GapHolds s laid) (a : List ℕ)
-    → length a ≤ areaLength (s .payload) (t .flag) → areaLength (s .payload) (t .flag) ≤ s .payload
-    → sealed s (t .flag) (framed s f v n t laid (a ++ replicate (s .payload - length a) 0x200))
+-- ---- closing: the CRC of what was laid, taken on over the filler behind it, is the CRC of the area
+end-is : (flag c : ℕ) (a fill : List ℕ) → c ≡ crcOf crcStart a → endBy flag (crcOf c fill) ≡ endWords flag (a ++ fill)
+unfolding endWords crcWords
+end-is flag c a fill e = ap (endBy flag) (ap (λ (x : ℕ). crcOf x fill) e ∙ sym (crc-append crcStart a fill))
+
+pub seals : (s : System) (f v : Bool) (n : ℕ) (t : Settings) (laid : List ℕ) (held : Held t) (room : s .payload + 61 ≤ s .length) (holds : GapHolds s laid) (a : List ℕ) (c : ℕ)
+    → length a ≤ areaLength (s .payload) (t .flag) → areaLength (s .payload) (t .flag) ≤ s .payload → c ≡ crcOf crcStart a
+    → sealed s (t .flag) (length a) c (framed s f v n t laid (a ++ replicate (s .payload - length a) 0x200))
     ≡ lineWords s f v n t laid (a ++ replicate (areaLength (s .payload) (t .flag) - length a) 0x200)
-unfolding sealed areaOf lineWords
-seals s f v n t laid held room holds a inside short =
+unfolding sealed lineWords
+seals s f v n t laid held room holds a c inside short is =
     let k = areaLength (s .payload) (t .flag) in
     let h = front s f v n t laid in
     let fill = a ++ replicate (s .payload - length a) 0x200 in
@@ -91,8 +85,8 @@ seals s f v n t laid held room holds a inside short =
     let at : length h ≡ payloadAt s = front-length s f v n t laid held room holds in
     let line : framed s f v n t laid fill ≡ h ++ fill = framed-front s f v n t laid fill in
     let cut : take k fill ≡ area = take-behind a k (s .payload - length a) 0x200 inside (omega arith) in
-    let body : part (payloadAt s) k (framed s f v n t laid fill) ≡ area =
-    ap (λ (l : List ℕ). part (payloadAt s) k l) line ∙ ap (take k) (drop-at h fill (payloadAt s) at) ∙ cut in
     let before : take (payloadAt s + k) (framed s f v n t laid fill) ≡ h ++ area =
     ap₂ (λ (i : ℕ) (l : List ℕ). take (i + k) l) (sym at) line ∙ take-append-add h fill k ∙ ap (λ (l : List ℕ). h ++ l) cut in
-    ap₂ (λ (p q : List ℕ). p ++ endWords (t .flag) q) before body ∙ append-assoc h area (endWords (t .flag) area) ∙ sym (framed-front s f v n t laid (area ++ endWords (t .flag) area))
+    ap₂ _++_ before (end-is (t .flag) c a (replicate (k - length a) 0x200) is)
+    ∙ append-assoc h area (endWords (t .flag) area)
+    ∙ sym (framed-front s f v n t laid (area ++ endWords (t .flag) area))

@@ -10,9 +10,11 @@ use lib.ListN.{length}
 use borrow.Author.Tests.{eq-eqb, ne-eqb, eqb-true}
 use Rattle.lists.specs.Tests.{pick}
 use Rattle.lists.proofs.Tests.{pick-true, pick-false}
+use Rattle.words.specs.Crc.{crcStart}
 use Rattle.line.specs.declared.settings.Settings.{Settings}
 use Rattle.course.specs.declared.Place.the-variants.{Shut}
 use Rattle.line.specs.Systems.{systemOf}
+use Rattle.course.specs.Course.{placeOf}
 use Rattle.writer.specs.declared.state.Writer.{Writer}
 use Rattle.writer.specs.declared.state.Answer.the-variants.{Refused, Done}
 use Rattle.writer.specs.declared.state.Laid.the-variants.{Refused as NotLaid}
@@ -53,7 +55,8 @@ module _ (w : Writer) (line : List ℕ) where
   unfolding closing
   close-clear e = eqb-true _ _ (done-or (eqb (closeFault w (length line)) 0) _ _ _ _ _ e)
 
-  pub close-leaves : closeFault w (length line) ≡ 0 → closing w line ≡ left Done (moved w Shut (w .rest)) (sealed (systemOf (w .system)) (w .settings .flag) line)
+  pub close-leaves : closeFault w (length line) ≡ 0
+      → closing w line ≡ left Done (moved w Shut (w .rest) crcStart) (sealed (systemOf (w .system)) (w .settings .flag) (placeOf (w .place)) (w .crc) line)
   unfolding closing
   close-leaves e = pick-true _ _ (eq-eqb _ _ e)
 

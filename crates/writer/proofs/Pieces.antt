@@ -32,7 +32,8 @@ use Rattle.writer.specs.Adding.{addFault, todo, fitting, adding}
 use Rattle.writer.specs.Filling.{pieceOf, asLaid}
 use Rattle.writer.proofs.Keeps.{add-leaves, add-stays}
 use Rattle.writer.proofs.Refusals.{can-add}
-use Rattle.writer.proofs.Writing.{either, piece-law}
+use Rattle.writer.proofs.FillLaws.{piece-law}
+use Rattle.writer.proofs.Writing.{either}
 use Rattle.writer.proofs.BlockLaws.{words-fixed}
 use Rattle.writer.proofs.Stays.{fixed-whole, fixed-fits}
 

@@ -27,7 +27,7 @@ use Rattle.course.proofs.CourseLaws.{end-in-area}
 use Rattle.writer.specs.declared.state.Rest.{Rest}
 use Rattle.writer.specs.declared.state.Rest.the-variants.{NoBlock, Part}
 use Rattle.writer.specs.declared.state.Writer.{Writer}
-use Rattle.writer.specs.State.{most, isPart, laidOf, misshapen, impossible, endIn}
+use Rattle.writer.specs.State.{most, isPart, laidOf, misshapen, overlong, impossible, endIn}
 use Rattle.writer.specs.Adding.{valued, illShaped, isFull, isOther, addFaults, addFault}
 use Rattle.writer.specs.Opening.{isNext, openBlocked, openFaults, openFault}
 use Rattle.writer.specs.Closing.{closeFaults, closeFault}
@@ -56,16 +56,18 @@ room-of-place end (At p) o e = leb-false end p e
 pub record Begun (w : Writer) : Type 0 where
   pub course : laws.Begun (w .system) (w .last) (w .settings) (w .place) (isPart (w .rest))
   pub shaped : misshapen (w .rest) ≡ false
+  pub short : overlong (w .crc) ≡ false
 
 pub begun : (w : Writer) → impossible w ≡ false → (isPart (w .rest) || isAt (w .place)) ≡ true → Begun w
 unfolding impossible
 begun w e o =
-    let h = or-false (impossibleAfter (w .system) (w .last) (w .settings) (w .place) (isPart (w .rest))) (misshapen (w .rest)) e in
-    record { course = laws.begun (w .system) (w .last) (w .settings) (w .place) (isPart (w .rest)) (h .0) o; shaped = h .1 }
+    let h = or-false (impossibleAfter (w .system) (w .last) (w .settings) (w .place) (isPart (w .rest))) _ e in
+    let held = or-false (misshapen (w .rest)) (overlong (w .crc)) (h .1) in
+    record { course = laws.begun (w .system) (w .last) (w .settings) (w .place) (isPart (w .rest)) (h .0) o; shaped = held .0; short = held .1 }
 
 pub possible-by : (w : Writer) → Begun w → impossible w ≡ false
 unfolding impossible
-possible-by w b = false-or (laws.begun-possible (w .system) (w .last) (w .settings) (w .place) (isPart (w .rest)) (b .course)) (b .shaped)
+possible-by w b = false-or (laws.begun-possible (w .system) (w .last) (w .settings) (w .place) (isPart (w .rest)) (b .course)) (false-or (b .shaped) (b .short))
 
 -- ---- an unfinished block has a word left
 laid-below : (block : ℕ) (rest : Rest) (kind n : ℕ) → (isPart rest && not (isVariable block)) ≡ false → misshapen rest ≡ false → isOther rest kind n ≡ false

@@ -9,6 +9,7 @@ use lib.Dec.{lit<, lit≤}
 use lib.ListN.{length, take, drop, replicate, length-append, length-replicate, length-drop}
 use lib.Seq.{paste, length-paste-head}
 use Rattle.lists.specs.Tests.{pick}
+use Rattle.words.specs.Crc.{crcOf}
 use Rattle.words.specs.Forms.{byteWord}
 use Rattle.words.specs.Modes.{isMode, values, wordOf}
 use Rattle.line.specs.declared.settings.Settings.{Settings}
@@ -123,7 +124,7 @@ full-long =
     paste-long opened-words (todo at-20 1 three) 276 (fitting at-20 (todo at-20 1 three)) (omega arith) (omega arith) ∙ long
 
 shuts : closeFault (lay at-20 opened-words 1 three .state) (length (lay at-20 opened-words 1 three .line)) ≡ 0
-unfolding closeFault at-20 start settings three pick fitsLength isSystem isMode impossible settingsFault settingsFaults blockRefused blocksEnd areaLength wordsIn blockWords countWords
+unfolding closeFault at-20 start settings three pick fitsLength isSystem isMode impossible settingsFault settingsFaults blockRefused blocksEnd areaLength wordsIn blockWords countWords wordOf byteWord crcOf
 shuts = ap (closeFault (lay at-20 opened-words 1 three .state)) full-long
 
 -- the line and the state that it leaves

@@ -3,15 +3,17 @@
 use mathlib.Core.Path.{_≡_, refl, sym, ap, ap₂, _∙_, subst}
 use mathlib.Core.Bool.{Bool, true, false, _&&_, _||_, not}
 use mathlib.Core.List.{List}
-use Prim.Native.Nat.{ℕ, _+_, _-_, _*_, _≤_, _<_, min}
+use Prim.Native.Nat.{ℕ, _+_, _-_, _*_, _^_, _≤_, _<_, min}
 use native.Mathlib.Nat.{one-mul}
 use native.Mathlib.Omega.{arith}
 use lib.Dec.{T, eqb, ltb}
-use lib.ListN.{length, getD, drop, length-drop}
-use borrow.Author.Tests.{eqb-true, eqb-false, eq-eqb, le-leb, le-ltb, ltb-false, not-false}
+use lib.ListN.{length, getD, take, drop, length-drop}
+use borrow.Author.Tests.{eqb-true, eqb-false, eq-eqb, le-leb, lt-leb, le-ltb, ltb-false, not-false}
 use Rattle.lists.specs.Tests.{pick}
 use Rattle.lists.proofs.Tests.{true-false, or-right, or-false, false-or, both-true, and-true, pick-true, pick-elim}
 use Rattle.lists.proofs.Refusals.{given-holds}
+use Rattle.words.specs.Crc.{crcStart, crcOf}
+use Rattle.words.proofs.CrcLaws.{crc-lt}
 use Rattle.line.specs.declared.settings.Settings.{Settings}
 use Rattle.course.specs.declared.Place.{Place}
 use Rattle.course.specs.declared.Place.the-variants.{Shut, At}
@@ -27,7 +29,7 @@ use Rattle.writer.specs.declared.state.Answer.{Answer}
 use Rattle.writer.specs.declared.state.Answer.the-variants.{Refused, Done}
 use Rattle.writer.specs.declared.state.Laid.{Laid}
 use Rattle.writer.specs.declared.state.Laid.the-variants.{Refused as NotLaid, Finished, Unfinished}
-use Rattle.writer.specs.State.{most, isPart, laidOf, fresh, misshapen, impossible, endIn, moved, openState}
+use Rattle.writer.specs.State.{most, isPart, laidOf, fresh, misshapen, overlong, impossible, endIn, moved, openState}
 use Rattle.writer.specs.Block.{wordsIn}
 use Rattle.writer.specs.Answers.{answerNumbers, laidNumbers, Left, left, Added, added}
 use Rattle.writer.specs.Opening.{openFaults, openFault, opening}
@@ -36,18 +38,22 @@ use Rattle.writer.specs.Closing.{closeFaults, closeFault, closing}
 use Rattle.writer.proofs.BlockLaws.{words-variable, words-fixed, block-long, fixed-long}
 use Rattle.writer.proofs.Refusals.{Begun, begun, possible-by, can-open, CanAdd, can-add, can-close}
 
--- another place and rest in a line that is begun
-moved-begun : (w : Writer) (p : Place) (r : Rest) → Begun w → misplaced (systemOf (w .system) .payload) (w .settings .block) (w .settings .flag) p ≡ false
-    → (isPart r && not (isVariable (w .settings .block))) ≡ false → misshapen r ≡ false → Begun (moved w p r)
-moved-begun w p r b x y z =
-    let c = b .course in
-    record { course = record { number = c .number; numbered = c .numbered; range = c .range; clean = c .clean; placed = x; varied = y }; shaped = z }
+-- another place, rest and CRC in a line that is begun
+moved-begun : (w : Writer) (p : Place) (r : Rest) (c : ℕ) → Begun w → misplaced (systemOf (w .system) .payload) (w .settings .block) (w .settings .flag) p ≡ false
+    → (isPart r && not (isVariable (w .settings .block))) ≡ false → misshapen r ≡ false → overlong c ≡ false → Begun (moved w p r c)
+moved-begun w p r c b x y z u =
+    let h = b .course in
+    record {
+      course = record { number = h .number; numbered = h .numbered; range = h .range; clean = h .clean; placed = x; varied = y };
+      shaped = z;
+      short = u;
+    }
 
 -- ---- opening: an unfinished block stays, with the same settings
 parts-of : (w : Writer) → impossible w ≡ false
     → (impossibleAfter (w .system) (w .last) (w .settings) (w .place) (isPart (w .rest)) ≡ false) × (misshapen (w .rest) ≡ false)
 unfolding impossible
-parts-of w e = or-false _ (misshapen (w .rest)) e
+parts-of w e = let h = or-false _ (misshapen (w .rest) || overlong (w .crc)) e in (h .0, or-false (misshapen (w .rest)) _ (h .1) .0)
 
 open-begun : (w : Writer) (n : ℕ) (t : Settings) (long : ℕ) → openFault w n t long ≡ 0 → Begun (openState w n t)
 open-begun w n t long ok =
@@ -58,6 +64,7 @@ open-begun w n t long ok =
     record {
       course = begins (w .system) (w .last) (w .settings) t (w .place) (At 0) part part n (kept .0) range (o .clean) (start-placed (w .system) t (o .clean)) (λ e. (e, o .goes e .0));
       shaped = kept .1;
+      short = refl;
     }
 
 pub open-possible : (w : Writer) (f v : Bool) (n : ℕ) (t : Settings) (line : List ℕ) → impossible w ≡ false → impossible (opening w f v n t line .state) ≡ false
@@ -74,7 +81,7 @@ close-possible w line e =
     (λ h.
     let c = can-close w line (eqb-true _ _ h) in
     let b = begun w e (or-right (isPart (w .rest)) (isAt (w .place)) (c .begun)) in
-    possible-by (moved w Shut (w .rest)) (moved-begun w Shut (w .rest) b refl (b .course .varied) (b .shaped)))
+    possible-by (moved w Shut (w .rest) crcStart) (moved-begun w Shut (w .rest) crcStart b refl (b .course .varied) (b .shaped) refl))
     (λ h. e)
 
 -- ---- a fresh writer
@@ -133,6 +140,10 @@ varied-any : (r : Rest) (v : Bool) → v ≡ true → (isPart r && not v) ≡ fa
 varied-any NoBlock v e = refl
 varied-any (Part k m j) v e = ap not e
 
+-- what a CRC is taken on to has 18 bits
+is-register : (c : ℕ) (ws : List ℕ) → overlong (crcOf c ws) ≡ false
+is-register c ws = lt-leb (2 ^ 18) (crcOf c ws) (crc-lt c ws)
+
 -- ---- the state after an accepted addition
 module _ (w : Writer) (line : List ℕ) (kind : ℕ) (vs : List ℕ) (ok : addFault w (length line) kind vs ≡ 0) where
   abbrev block : ℕ
@@ -146,6 +157,9 @@ module _ (w : Writer) (line : List ℕ) (kind : ℕ) (vs : List ℕ) (ok : addFa
 
   abbrev rest′ : Rest
   rest′ = pick (eqb (fitting w (todo w kind vs)) (length (todo w kind vs))) NoBlock (Part kind (length vs) (laidOf (w .rest) + fitting w (todo w kind vs)))
+
+  abbrev crc′ : ℕ
+  crc′ = crcOf (w .crc) (take (fitting w (todo w kind vs)) (todo w kind vs))
 
   adds : CanAdd w line kind vs
   adds = can-add w line kind vs ok
@@ -168,12 +182,13 @@ module _ (w : Writer) (line : List ℕ) (kind : ℕ) (vs : List ℕ) (ok : addFa
       part-range (endIn w) (placeOf (w .place)) (length ws) (length vs) (laidOf (w .rest)) k free (variable-long v)
       (laid-most (w .rest) kind (length vs) (at-adding .shaped) (adds .same)) refl h
 
-  variable-after : isVariable (w .settings .block) ≡ true → Begun (moved w (At (placeOf (w .place) + k)) rest′)
+  variable-after : isVariable (w .settings .block) ≡ true → Begun (moved w (At (placeOf (w .place) + k)) rest′ crc′)
   variable-after v =
-      moved-begun w _ rest′ at-adding (variable-placed (systemOf (w .system) .payload) block (w .settings .flag) (placeOf (w .place) + k) v (let f = free in omega arith))
+      moved-begun w _ rest′ crc′ at-adding (variable-placed (systemOf (w .system) .payload) block (w .settings .flag) (placeOf (w .place) + k) v (let f = free in omega arith))
       (varied-any rest′ (isVariable block) v)
       (rest-after (eqb k (length ws)) kind (length vs) (laidOf (w .rest) + k) (adds .number)
       (λ e. part-laid v (eqb-false _ _ e)))
+      (is-register (w .crc) _)
 
   -- a fixed line: the block is laid whole, up to the next place
   pub fixed-whole : isVariable (w .settings .block) ≡ false → w .rest ≡ NoBlock
@@ -199,23 +214,24 @@ module _ (w : Writer) (line : List ℕ) (kind : ℕ) (vs : List ℕ) (ok : addFa
   pub fixed-fits : isVariable (w .settings .block) ≡ false → fitting w (todo w kind vs) ≡ length (todo w kind vs)
   fixed-fits v = let a = fixed-next v in let b = fixed-size v in omega arith
 
-  fixed-after : isVariable (w .settings .block) ≡ false → Begun (moved w (At (placeOf (w .place) + k)) rest′)
+  fixed-after : isVariable (w .settings .block) ≡ false → Begun (moved w (At (placeOf (w .place) + k)) rest′ crc′)
   fixed-after v =
       let all = fixed-fits v in
       let one = one-mul (sizeOf block) in
       let next : placeOf (w .place) + k ≡ placeOf (w .place) + 1 * sizeOf block = ap (λ (x : ℕ). placeOf (w .place) + x) (all ∙ fixed-size v ∙ sym one) in
       let whole : rest′ ≡ NoBlock = pick-true _ _ (eq-eqb _ _ all) in
-      moved-begun w _ rest′ at-adding
+      moved-begun w _ rest′ crc′ at-adding
       (subst (λ (x : ℕ). misplaced (systemOf (w .system) .payload) block (w .settings .flag) (At x) ≡ false) (sym next)
       (grid-next (systemOf (w .system) .payload) block (w .settings .flag) (placeOf (w .place)) 1 v at-grid
       (subst (λ (x : ℕ). placeOf (w .place) + x ≤ endIn w) (sym one) (fixed-next v))))
       (ap (λ (r : Rest). isPart r && not (isVariable block)) whole)
       (ap misshapen whole)
+      (is-register (w .crc) _)
 
-  add-begun : Begun (moved w (At (placeOf (w .place) + k)) rest′)
+  add-begun : Begun (moved w (At (placeOf (w .place) + k)) rest′ crc′)
   add-begun = go (isVariable block) refl
     where
-      go : (b : Bool) → isVariable block ≡ b → Begun (moved w (At (placeOf (w .place) + k)) rest′)
+      go : (b : Bool) → isVariable block ≡ b → Begun (moved w (At (placeOf (w .place) + k)) rest′ crc′)
       go true v = variable-after v
       go false v = fixed-after v
 

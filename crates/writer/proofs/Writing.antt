@@ -8,12 +8,16 @@ use mathlib.Core.Logic.{_⊎_, inl, inr, ⊎-elim}
 use Prim.Native.Nat.{ℕ, zero, suc, _+_, _-_, _≤_}
 use native.Mathlib.Nat.{sub-zero}
 use native.Mathlib.Omega.{arith}
+use lib.Dec.{lit<}
 use lib.ListN.{length, take, drop, replicate, length-append, length-replicate}
 use lib.Seq.{paste, length-take-le, take-at, drop-at}
-use Rattle.lists.specs.Lists.{each}
+use Rattle.lists.specs.Lists.{part, each}
 use Rattle.lists.proofs.Lists.{each-append}
+use Rattle.words.specs.Crc.{crcStart, crcOf}
 use Rattle.words.specs.Modes.{isMode}
+use Rattle.words.proofs.CrcLaws.{crc-none, crc-append}
 use Rattle.line.specs.declared.settings.Settings.{Settings}
+use Rattle.course.specs.declared.Place.{Place}
 use Rattle.course.specs.declared.Place.the-variants.{At}
 use Rattle.line.specs.Systems.{systemOf, isSystem}
 use Rattle.line.specs.Fixed.{isVariable}
@@ -32,6 +36,7 @@ use Rattle.writer.specs.Opening.{openWords, opening}
 use Rattle.writer.specs.Adding.{addFault, todo, fitting, adding}
 use Rattle.writer.specs.Closing.{sealed, closing}
 use Rattle.writer.specs.Filling.{pieceOf, joined, Filling, filled, adds, tries-opening, tries-closing, Written, areaFrom}
+use Rattle.writer.proofs.FillLaws.{piece-law}
 use Rattle.writer.proofs.Keeps.{open-clear, open-leaves, open-keeps, close-clear, close-leaves, close-keeps, add-leaves, add-stays}
 use Rattle.writer.proofs.Framing.{front, front-length, framed-front, pasted, seals}
 use Rattle.writer.proofs.Legal.{each-take, each-drop, each-filler, filler-legal, words-legal}
@@ -47,6 +52,7 @@ pub record Open (system mode : ℕ) (f v : Bool) (n : ℕ) (t : Settings) (a : L
   pub of-place : w .place ≡ At (length a)
   pub within : length a ≤ areaLength (systemOf system .payload) (t .flag)
   pub words : each (legal mode (isVariable (t .block))) a ≡ true
+  pub summed : w .crc ≡ crcOf crcStart a
   pub is : line ≡ framed (systemOf system) f v n t [] (a ++ replicate (systemOf system .payload - length a) 0x200)
 
 -- which way a test goes
@@ -55,13 +61,6 @@ either zero = inl refl
 either (suc n) = inr (λ e. omega arith)
 
 -- ---- one addition
--- the piece of words pasted at their place
-pub piece-law : (l s : List ℕ) (a p k : ℕ) → a ≤ length l → k ≤ length s → take (p + k - p) (drop a (paste l a s k)) ≡ take k s
-piece-law l s a p k ha hk =
-    let m : p + k - p ≡ k = omega arith in
-    ap₂ take m (ap (drop a) (append-assoc (take a l) (take k s) (drop (a + k) l)) ∙ drop-at (take a l) (take k s ++ drop (a + k) l) a (length-take-le a l ha))
-    ∙ take-at (take k s) (drop (a + k) l) k (length-take-le k s hk)
-
 module _ (system mode : ℕ) (f v : Bool) (n : ℕ) (t : Settings) (held : Held t) (known : isSystem system ≡ true) (row : Sound (systemOf system))
     (clean : settingsFault system t ≡ 0) where
   -- what the line is before the payload, and where the payload starts
@@ -76,6 +75,19 @@ module _ (system mode : ℕ) (f v : Bool) (n : ℕ) (t : Settings) (held : Held 
   ends-in w es et =
       subst (λ (x : ℕ). x ≤ areaLength (systemOf system .payload) (t .flag))
       (sym (ap₂ (λ (s : ℕ) (u : Settings). blocksEnd (systemOf s .payload) (u .block) (u .flag)) es et)) (end-in-area system t known clean)
+
+  -- what was laid stands from the payload's start to the place, and the CRC is that of these words
+  pub stands : (a : List ℕ) (w : Writer) (line : List ℕ) → Open system mode f v n t a w line → part (payloadAt (systemOf system)) (placeOf (w .place)) line ≡ a
+  unfolding before
+  stands a w line o =
+      let fill : List ℕ = replicate (systemOf system .payload - length a) 0x200 in
+      ap₂ (λ (p : Place) (l : List ℕ). part (payloadAt (systemOf system)) (placeOf p) l) (o .of-place) (o .is ∙ framed-front (systemOf system) f v n t [] (a ++ fill))
+      ∙ ap (take (length a)) (drop-at before (a ++ fill) (payloadAt (systemOf system)) before-long)
+      ∙ take-at a fill (length a) refl
+
+  pub summed-there : (a : List ℕ) (w : Writer) (line : List ℕ) → Open system mode f v n t a w line
+      → w .crc ≡ crcOf crcStart (part (payloadAt (systemOf system)) (placeOf (w .place)) line)
+  summed-there a w line o = o .summed ∙ ap (crcOf crcStart) (sym (stands a w line o))
 
   module _ (a : List ℕ) (w : Writer) (line : List ℕ) (o : Open system mode f v n t a w line) (kind : ℕ) (vs : List ℕ)
       (ok : addFault w (length line) kind vs ≡ 0) where
@@ -126,6 +138,14 @@ module _ (system mode : ℕ) (f v : Bool) (n : ℕ) (t : Settings) (held : Held 
     after-place : adding w line kind vs .state .place ≡ At (length a + k)
     after-place = ap (λ (x : Added). x .state .place) (add-leaves w line kind vs ok) ∙ ap (λ (p : ℕ). At (p + k)) place-is
 
+    -- the CRC of what was laid before, taken on over what is laid now
+    after-crc : adding w line kind vs .state .crc ≡ crcOf crcStart (a ++ laid)
+    unfolding laid
+    after-crc =
+        ap (λ (x : Added). x .state .crc) (add-leaves w line kind vs ok)
+        ∙ ap (λ (c : ℕ). crcOf c (take (fitting w (todo w kind vs)) (todo w kind vs))) (o .summed)
+        ∙ sym (crc-append crcStart a (take (fitting w (todo w kind vs)) (todo w kind vs)))
+
     long-line : length before + length a ≤ length line
     long-line =
         let p = systemOf system .payload in
@@ -159,6 +179,7 @@ module _ (system mode : ℕ) (f v : Bool) (n : ℕ) (t : Settings) (held : Held 
           of-place = after-place ∙ ap At (sym long);
           within = subst (λ (x : ℕ). x ≤ areaLength (systemOf system .payload) (t .flag)) (sym long) fits-in;
           words = each-append _ a laid (o .words) laid-legal;
+          summed = after-crc;
           is = after-line;
         })
 
@@ -219,6 +240,7 @@ opened-line w f v n t lent done =
       of-place = ap (λ (x : Left). x .state .place) e;
       within = omega arith;
       words = refl;
+      summed = ap (λ (x : Left). x .state .crc) e ∙ sym (crc-none crcStart (lit< tt));
       is = ap (λ (x : Left). x .line) e
           ∙ ap (λ (m : ℕ). framed (systemOf (w .system)) f v n t [] (replicate m 0x200)) (sym (sub-zero (systemOf (w .system) .payload)));
     }
@@ -232,9 +254,9 @@ module _ (system mode : ℕ) (f v : Bool) (n : ℕ) (t : Settings) (held : Held 
   unfolding areaFrom
   closed-line =
       ap (λ (x : Left). x .line) (close-leaves w line (close-clear w line done))
-      ∙ ap₂ (λ (s : ℕ) (u : Settings). sealed (systemOf s) (u .flag) line) (o .of-system) (o .of-settings)
-      ∙ ap (sealed (systemOf system) (t .flag)) (o .is)
-      ∙ seals (systemOf system) f v n t [] held (row .room) (omega arith) (joined ps) (o .within) (area-most (systemOf system .payload) (t .flag))
+      ∙ ap₂ (λ (s : ℕ) (u : Settings). sealed (systemOf s) (u .flag) (placeOf (w .place)) (w .crc) line) (o .of-system) (o .of-settings)
+      ∙ ap₂ (λ (p : Place) (l : List ℕ). sealed (systemOf system) (t .flag) (placeOf p) (w .crc) l) (o .of-place) (o .is)
+      ∙ seals (systemOf system) f v n t [] held (row .room) (omega arith) (joined ps) (w .crc) (o .within) (area-most (systemOf system .payload) (t .flag)) (o .summed)
 
   buildable : Buildable system mode n t (areaFrom (systemOf system .payload) (t .flag) ps)
   unfolding areaFrom

@@ -4,10 +4,11 @@ use Prim.Native.Nat.{ℕ, _+_, _-_, min}
 use mathlib.Core.Bool.{Bool, false, _&&_, _||_, not}
 use mathlib.Core.List.{List, [], _∷_}
 use lib.Dec.{eqb, leb, ltb}
-use lib.ListN.{length, drop}
+use lib.ListN.{length, take, drop}
 use lib.Seq.{paste}
 use Rattle.lists.specs.Tests.{pick, Refusal, when, lowestOf}
 use Rattle.lists.specs.Lists.{each}
+use Rattle.words.specs.Crc.{crcOf}
 use Rattle.words.specs.Modes.{values}
 use Rattle.course.specs.declared.Place.{Place}
 use Rattle.course.specs.declared.Place.the-variants.{Shut, At}
@@ -64,11 +65,11 @@ todo w kind vs = drop (laidOf (w .rest)) (wordsIn (w .settings .block) (w .mode)
 abbrev pub fitting : Writer → List ℕ → ℕ
 fitting w ws = min (endIn w - placeOf (w .place)) (length ws)
 
--- k of the words ws laid at the place: finished where these are all
+-- k of the words ws laid at the place: finished where these are all; the CRC is taken on over the k words, whatever the flag
 abbrev pub laying : Writer → List ℕ → ℕ → ℕ → List ℕ → ℕ → Added
 laying w line kind n ws k =
     added (pick (eqb k (length ws)) Finished Unfinished)
-    (moved w (At (placeOf (w .place) + k)) (pick (eqb k (length ws)) NoBlock (Part kind n (laidOf (w .rest) + k))))
+    (moved w (At (placeOf (w .place) + k)) (pick (eqb k (length ws)) NoBlock (Part kind n (laidOf (w .rest) + k))) (crcOf (w .crc) (take k ws)))
     (paste line (payloadAt (systemOf (w .system)) + placeOf (w .place)) ws k)
 
 abbrev pub lay : Writer → List ℕ → ℕ → List ℕ → Added

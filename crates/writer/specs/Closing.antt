@@ -1,17 +1,18 @@
 -- Closing a line: answers 1, 2, 20, and what stands in the line and the state afterwards.
 -- Assumes nothing.
-use Prim.Native.Nat.{ℕ, _+_}
+use Prim.Native.Nat.{ℕ, _+_, _-_}
 use mathlib.Core.Bool.{_&&_, _||_, not}
 use mathlib.Core.List.{List, [], _∷_, _++_}
 use lib.Dec.{eqb}
-use lib.ListN.{length, take}
+use lib.ListN.{length, take, replicate}
 use Rattle.lists.specs.Tests.{pick, Refusal, when, lowestOf}
+use Rattle.words.specs.Crc.{crcStart, crcOf, registerWords}
 use Rattle.line.specs.declared.systems.System.{System}
 use Rattle.course.specs.declared.Place.the-variants.{Shut}
 use Rattle.line.specs.Systems.{systemOf}
-use Rattle.line.specs.Layout.{payloadAt, areaLength, areaOf, endWords}
+use Rattle.line.specs.Layout.{payloadAt, areaLength}
 use Rattle.line.specs.Check.{fitsLength}
-use Rattle.course.specs.Course.{isAt}
+use Rattle.course.specs.Course.{isAt, placeOf}
 use Rattle.writer.specs.declared.state.Writer.{Writer}
 use Rattle.writer.specs.declared.state.Answer.the-variants.{Refused, Done}
 use Rattle.writer.specs.State.{isPart, impossible, endIn, moved}
@@ -29,12 +30,21 @@ closeFaults w long =
 unfoldable pub closeFault : Writer → ℕ → ℕ
 closeFault w long = lowestOf (closeFaults w long)
 
--- Closing writes the payload CRC: of the area as the line has it, behind the area.
-unfoldable pub sealed : System → ℕ → List ℕ → List ℕ
-sealed s flag line = take (payloadAt s + areaLength (s .payload) flag) line ++ endWords flag (areaOf s flag line)
+-- flag 01h: the two words of a register stand behind the area; 00h: nothing does
+abbrev pub endBy : ℕ → ℕ → List ℕ
+endBy flag c = pick (eqb flag 1) (registerWords c) []
 
--- a refusal leaves line and state
+-- Closing takes the stored CRC on over the filler that is left of the area behind the place, and writes it behind the area. What the words
+-- of the area are is not asked.
+unfoldable pub sealed : System → ℕ → ℕ → ℕ → List ℕ → List ℕ
+sealed s flag place c line =
+    let area = areaLength (s .payload) flag in
+    take (payloadAt s + area) line ++ endBy flag (crcOf c (replicate (area - place) 0x200))
+
+-- no line is then open, and so no word laid; a refusal leaves line and state
 unfoldable pub closing : Writer → List ℕ → Left
 closing w line =
     let fault = closeFault w (length line) in
-    pick (eqb fault 0) (left Done (moved w Shut (w .rest)) (sealed (systemOf (w .system)) (w .settings .flag) line)) (left (Refused fault) w line)
+    pick (eqb fault 0)
+    (left Done (moved w Shut (w .rest) crcStart) (sealed (systemOf (w .system)) (w .settings .flag) (placeOf (w .place)) (w .crc) line))
+    (left (Refused fault) w line)

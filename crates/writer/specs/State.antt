@@ -1,8 +1,9 @@
 -- The writer's state, and which states are impossible.
 -- Assumes nothing.
-use Prim.Native.Nat.{ℕ, _+_}
+use Prim.Native.Nat.{ℕ, _+_, _^_}
 use mathlib.Core.Bool.{Bool, true, false, _||_}
-use lib.Dec.{ltb}
+use lib.Dec.{leb, ltb}
+use Rattle.words.specs.Crc.{crcStart}
 use Rattle.course.specs.declared.Last.the-variants.{Unknown, Number}
 use Rattle.course.specs.declared.Place.{Place}
 use Rattle.course.specs.declared.Place.the-variants.{Shut, At}
@@ -27,27 +28,32 @@ abbrev pub laidOf : Rest → ℕ
 laidOf NoBlock = 0
 laidOf (Part k n j) = j
 
--- Fresh: no number, line or block, settings zero.
+-- Fresh: no number, line or block, settings zero, and the CRC of no words.
 abbrev pub fresh : ℕ → ℕ → Writer
-fresh system mode = record { system = system; mode = mode; last = Unknown; settings = noSettings; place = Shut; rest = NoBlock }
+fresh system mode = record { system = system; mode = mode; last = Unknown; settings = noSettings; place = Shut; rest = NoBlock; crc = crcStart }
 
 -- an unfinished block has n at most 16,384, and 1 to n+6 words laid
 abbrev pub misshapen : Rest → Bool
 misshapen NoBlock = false
 misshapen (Part k n j) = ltb most n || (ltb j 1 || ltb (n + 6) j)
 
--- the impossible rule, of lines and of the unfinished block
+-- a CRC is a register of 18 bits; every number of them is taken, right or wrong
+abbrev pub overlong : ℕ → Bool
+overlong c = leb (2 ^ 18) c
+
+-- the impossible rule, of lines, of the unfinished block and of the CRC
 unfoldable pub impossible : Writer → Bool
-impossible w = impossibleAfter (w .system) (w .last) (w .settings) (w .place) (isPart (w .rest)) || misshapen (w .rest)
+impossible w =
+    impossibleAfter (w .system) (w .last) (w .settings) (w .place) (isPart (w .rest)) || (misshapen (w .rest) || overlong (w .crc))
 
 -- how many words of the open line's area blocks may stand in
 abbrev pub endIn : Writer → ℕ
 endIn w = blocksEnd (systemOf (w .system) .payload) (w .settings .block) (w .settings .flag)
 
--- the state of an opened line, at its first word; an unfinished block stays
+-- the state of an opened line, at its first word, none laid; an unfinished block stays
 abbrev pub openState : Writer → ℕ → Settings → Writer
-openState w n t = record { system = w .system; mode = w .mode; last = Number n; settings = t; place = At 0; rest = w .rest }
+openState w n t = record { system = w .system; mode = w .mode; last = Number n; settings = t; place = At 0; rest = w .rest; crc = crcStart }
 
--- the state with another place and rest
-abbrev pub moved : Writer → Place → Rest → Writer
-moved w p r = record { system = w .system; mode = w .mode; last = w .last; settings = w .settings; place = p; rest = r }
+-- the state with another place, rest and CRC
+abbrev pub moved : Writer → Place → Rest → ℕ → Writer
+moved w p r c = record { system = w .system; mode = w .mode; last = w .last; settings = w .settings; place = p; rest = r; crc = c }

@@ -1,4 +1,4 @@
-// Adding a block: as much of it as fits is laid; the next call lends the same block again.
+// Adding a block: as much of it as fits is laid, and the CRC taken on over it; the next call lends the same block again.
 use crate::block;
 use crate::state;
 use crate::state::Laid;
@@ -7,6 +7,7 @@ use crate::state::Writer;
 use course::Place;
 use line::check;
 use line::systems;
+use words::crc;
 ghost use mathlib.Core.Path.{_≡_};
 ghost use mathlib.Core.Bool.{true, false};
 ghost use Prim.Native.Nat.{_+_, _≤_, _<_};
@@ -95,7 +96,7 @@ fn add_fault(w: Writer, long: usize, kind: u16, values: &[u16]) -> u8
         return 1;
     }
     let x = course::look(w.system, last, settings, place, state::is_part(rest));
-    if x.impossible | state::is_misshapen(rest) {
+    if x.impossible | state::is_misheld(rest, w.crc) {
         return 2;
     }
     if !is_valued(w.mode, values) {
@@ -148,9 +149,10 @@ fn lay_place(w: Writer, kind: u16, values: &[u16], line: &mut [u16]) -> Addition
     let a = s.length - s.payload + place;
     let e = a + k;
     block::lay_fixed(w.mode, kind, values, &mut line[a..e]);
+    let c = crc::crc_of(w.crc, &line[a..e]);
     Addition {
         answer: Laid::Finished,
-        state: state::moved(w, Place::At(place + k), Rest::NoBlock),
+        state: state::moved(w, Place::At(place + k), Rest::NoBlock, c),
     }
 }
 
@@ -169,10 +171,11 @@ fn lay_part(w: Writer, kind: u16, values: &[u16], line: &mut [u16]) -> Addition
     let a = s.length - s.payload + place;
     let e = a + k;
     block::lay_words(w.mode, kind, values, laid, &mut line[a..e]);
+    let c = crc::crc_of(w.crc, &line[a..e]);
     let after = rest_after(left, k, kind, values.len(), laid);
     Addition {
         answer: told(left, k),
-        state: state::moved(w, Place::At(place + k), after),
+        state: state::moved(w, Place::At(place + k), after, c),
     }
 }
 

@@ -1,4 +1,5 @@
-// Closing a line: with flag 01h the CRC of the area is written behind it, with 00h nothing.
+// Closing a line: with flag 01h the CRC is taken on over the filler left and written behind the area, with 00h nothing. No word of the line
+// is looked at.
 use crate::adding;
 use crate::opening::Reply;
 use crate::state;
@@ -8,6 +9,7 @@ use course::Place;
 use line::check;
 use line::systems;
 use line::systems::System;
+use words::crc;
 ghost use mathlib.Core.Path.{_≡_};
 ghost use Prim.Native.Nat.{_+_, _≤_};
 ghost use lib.ListN.{length};
@@ -27,16 +29,15 @@ fn close_fault(w: Writer, long: usize) -> u8
     lists::or_else(!check::is_fit(w.system, w.mode, long), 1, r2)
 }
 
-// The CRC of the area into the last two words, if the flag is 01h.
-fn seal(s: System, flag: u8, line: &mut [u16])
+// If the flag is 01h: the CRC c taken on over the area's filler from the place on, into the last two words.
+fn seal(s: System, flag: u8, place: usize, c: u32, line: &mut [u16])
     requires { ⌜ (s .payload + 61 ≤ s .length) × (2 ≤ s .payload) × (s .length ≡ length (now line)) ⌝ }
-    ensures { λ _. ⌜ now (line .exit) ≡ sealed s flag (now (line .entry)) ⌝ }
+    ensures { λ _. ⌜ now (line .exit) ≡ sealed s flag place c (now (line .entry)) ⌝ }
 {
     if flag == 1 {
-        let a = s.length - s.payload;
         let e = s.length - 2;
-        let c = words::crc::crc_of(words::crc::CRC_START, &line[a..e]);
-        let two = words::crc::crc_words(c);
+        let left = lists::minus_or_zero(s.payload - 2, place);
+        let two = crc::crc_words(crc::crc_filler(c, left));
         line[e] = two[0];
         line[e + 1] = two[1];
     }
@@ -55,10 +56,11 @@ pub fn close_line(w: Writer, line: &mut [u16]) -> Reply
         };
     }
     let s = systems::system_of(w.system);
+    let at = w.place;
     let rest = w.rest;
-    seal(s, w.settings.flag, line);
+    seal(s, w.settings.flag, course::place_of(at), w.crc, line);
     Reply {
         answer: Answer::Done,
-        state: state::moved(w, Place::Shut, rest),
+        state: state::moved(w, Place::Shut, rest, crc::CRC_START),
     }
 }

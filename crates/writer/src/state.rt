@@ -3,8 +3,10 @@ use course::Last;
 use course::Place;
 use line::settings;
 use line::settings::Settings;
+use words::crc;
 ghost use mathlib.Core.Path.{_≡_};
-ghost use Rattle.writer.specs.State.{isPart, laidOf, fresh, misshapen, impossible, endIn, openState, moved};
+ghost use mathlib.Core.Bool.{_||_};
+ghost use Rattle.writer.specs.State.{isPart, laidOf, fresh, misshapen, overlong, impossible, endIn, openState, moved};
 
 // An unfinished block: its type, n and the words laid (1 to n+6).
 pub enum Rest {
@@ -12,6 +14,7 @@ pub enum Rest {
     Part { kind: u8, count: u16, laid: u16 },
 }
 
+// crc is that of the area words laid so far in this line.
 pub struct Writer {
     pub system: u8,
     pub mode: u8,
@@ -19,6 +22,7 @@ pub struct Writer {
     pub settings: Settings,
     pub place: Place,
     pub rest: Rest,
+    pub crc: u32,
 }
 
 // What opening and closing answer.
@@ -46,10 +50,11 @@ pub fn fresh_writer(system: u8, mode: u8) -> Writer
         settings: none,
         place: Place::Shut,
         rest: Rest::NoBlock,
+        crc: crc::CRC_START,
     }
 }
 
-// The state of an opened line, at its first word.
+// The state of an opened line, at its first word, none laid.
 pub(crate) fn opened(w: Writer, n: u16, t: Settings) -> Writer
     ensures { λ r. ⌜ r ≡ openState w n t ⌝ }
 {
@@ -61,12 +66,13 @@ pub(crate) fn opened(w: Writer, n: u16, t: Settings) -> Writer
         settings: t,
         place: Place::At(0),
         rest: rest,
+        crc: crc::CRC_START,
     }
 }
 
-// The state with another place and rest.
-pub(crate) fn moved(w: Writer, place: Place, rest: Rest) -> Writer
-    ensures { λ r. ⌜ r ≡ moved w place rest ⌝ }
+// The state with another place, rest and CRC.
+pub(crate) fn moved(w: Writer, place: Place, rest: Rest, crc: u32) -> Writer
+    ensures { λ r. ⌜ r ≡ moved w place rest crc ⌝ }
 {
     let last = w.last;
     let settings = w.settings;
@@ -77,6 +83,7 @@ pub(crate) fn moved(w: Writer, place: Place, rest: Rest) -> Writer
         settings: settings,
         place: place,
         rest: rest,
+        crc: crc,
     }
 }
 
@@ -109,7 +116,7 @@ pub fn laid_of(rest: Rest) -> usize
 }
 
 // n above 16,384, or words laid not 1 to n+6.
-pub(crate) fn is_misshapen(rest: Rest) -> bool
+fn is_misshapen(rest: Rest) -> bool
     ensures { λ r. ⌜ r ≡ misshapen rest ⌝ }
 {
     match rest {
@@ -122,6 +129,13 @@ pub(crate) fn is_misshapen(rest: Rest) -> bool
     }
 }
 
+// The unfinished block is misshapen, or the CRC above 18 bits.
+pub(crate) fn is_misheld(rest: Rest, crc: u32) -> bool
+    ensures { λ r. ⌜ r ≡ (misshapen rest || overlong crc) ⌝ }
+{
+    is_misshapen(rest) | (262144 <= crc)
+}
+
 // No writer can have come into this state.
 pub fn is_impossible(w: Writer) -> bool
     ensures { λ r. ⌜ r ≡ impossible w ⌝ }
@@ -131,7 +145,7 @@ pub fn is_impossible(w: Writer) -> bool
     let place = w.place;
     let rest = w.rest;
     let lines = course::is_impossible(w.system, last, settings, place, is_part(rest));
-    lines | is_misshapen(rest)
+    lines | is_misheld(rest, w.crc)
 }
 
 // The words of the open line's area in which blocks may stand.

@@ -8,27 +8,27 @@ use Rattle.lists.proofs.Refusals.{LowestOf, low-none, low-hit, low-miss, low-st
 use Rattle.line.specs.Check.{fitsLength}
 use Rattle.course.specs.Course.{impossibleAfter}
 use Rattle.writer.specs.declared.state.Writer.{Writer}
-use Rattle.writer.specs.State.{isPart, misshapen, impossible, endIn}
+use Rattle.writer.specs.State.{isPart, misshapen, overlong, impossible, endIn}
 use Rattle.writer.specs.Adding.{valued, illShaped, isFull, addFaults, addFault}
 use borrow.Author.Needs.{needs}
 use Rattle.writer.proofs.adding.add_fault.Statement.{statement}
 use Rattle.writer.proofs.adding.add_fault.Tie as tie
 
 -- the tests of the state and of the room, by what the look found
-impossible-by : (w : Writer) (i b m : Bool) → i ≡ impossibleAfter (w .system) (w .last) (w .settings) (w .place) b → b ≡ isPart (w .rest) → m ≡ misshapen (w .rest)
-    → (i || m) ≡ impossible w
+impossible-by : (w : Writer) (i b m : Bool) → i ≡ impossibleAfter (w .system) (w .last) (w .settings) (w .place) b → b ≡ isPart (w .rest)
+    → m ≡ (misshapen (w .rest) || overlong (w .crc)) → (i || m) ≡ impossible w
 unfolding impossible
 impossible-by w i b m e f g = ap₂ _||_ (e ∙ ap (λ (b : Bool). impossibleAfter (w .system) (w .last) (w .settings) (w .place) b) f) g
 
 full-by : (w : Writer) (f : Bool) (end : ℕ) → f ≡ isFull end (w .place) → end ≡ endIn w → f ≡ isFull (endIn w) (w .place)
 full-by w f end e g = e ∙ ap (λ (n : ℕ). isFull n (w .place)) g
 
-looked : (c : tie.After-is-misshapen) →
+looked : (c : tie.After-is-misheld) →
     let w = c .before .before .before .before .before .before .before .args .w in
-    (c .before .look .result .impossible || c .is-misshapen .result) ≡ impossible w
+    (c .before .look .result .impossible || c .is-misheld .result) ≡ impossible w
 looked c =
     let x = c .before in
-    impossible-by (x .before .before .before .before .before .before .args .w) _ _ _ (x .look .ensures .0) (x .before .is-part .ensures) (c .is-misshapen .ensures)
+    impossible-by (x .before .before .before .before .before .before .args .w) _ _ _ (x .look .ensures .0) (x .before .is-part .ensures) (c .is-misheld .ensures)
 
 filled : (c : tie.After-is-full) →
     let w = c .before .before .before .before .before .before .before .before .before .before .before .before .before .before .args .w in
@@ -128,7 +128,7 @@ pub add-fault-spec : {M : Type 1} → statement M
 add-fault-spec =
     tie.close (tie.spec
     (need tie.Need-is-fit-requires (λ c κs. search needs)) returns (need tie.Need-is-part-requires (λ c κs. search needs))
-    (need tie.Need-look-requires (λ c κs. search needs)) (need tie.Need-is-misshapen-requires (λ c κs. search needs)) returns-2
+    (need tie.Need-look-requires (λ c κs. search needs)) (need tie.Need-is-misheld-requires (λ c κs. search needs)) returns-2
     (need tie.Need-is-valued-requires (λ c κs. search needs)) returns-3 is-ill-shaped-requires returns-4
     (need tie.Need-is-full-requires (λ c κs. search needs)) returns-5 (need tie.Need-is-at-requires (λ c κs. search needs))
     (need tie.Need-is-other-requires (λ c κs. search needs)) (need tie.Need-or-else-requires (λ c κs. search needs)) returns-6)

@@ -81,15 +81,25 @@ lay-words-requires c κs =
     let a = s .system-of .result .length - s .system-of .result .payload + q .place-of .result in
     omega (arith, sizes (found y) .laid, count-variable (t .args .w .settings .block) (length (t .args .values .now)) (t .pre .1), part-most (t .args .line .now) a (y .smaller-of .result))
 
+mul-crc-of : tie.Need-mul-crc-of
+mul-crc-of c = let z = sizes (found (c .before .before .before .before .before)) in omega (arith, z .within, z .short, z .ends)
+
+part-crc-of-end : tie.Need-part-crc-of-end
+part-crc-of-end c =
+    let l = c .before .before in
+    omega (arith, sizes (found (l .before .before .before .before)) .within, l .line .given .1)
+
 rest-after-requires : tie.Need-rest-after-requires
-rest-after-requires c κs = let z = sizes (found (c .before .before .before .before .before)) in (z .byte, z .number, omega (arith, z .laid, z .few))
+rest-after-requires c κs = let z = sizes (found (c .before .before .before .before .before .before .before .before)) in (z .byte, z .number, omega (arith, z .laid, z .few))
 
 returns : tie.Need-returns
 returns c =
-    let y = c .before .before .before .before .before .before .before .before in
+    let r = c .before .before in
+    let s = r .before in
+    let l = s .before .before .before .before .before in
+    let y = l .before .before .before in
     let t = y .before .before .before .before .before .before .before in
-    part-done (found y) (t .pre .1) _ _ _ _ (c .before .before .before .before .before .lay-words .ensures) (c .before .before .rest-after .ensures) (c .before .told .ensures)
-    (c .moved .ensures)
+    part-done (found y) (t .pre .1) _ _ _ _ _ (l .lay-words .ensures) (r .rest-after .ensures) (s .crc-of .ensures) (c .before .told .ensures) (c .moved .ensures)
 
 pub lay-part-spec : {M : Type 1} → statement M
 lay-part-spec =
@@ -97,6 +107,8 @@ lay-part-spec =
     (need tie.Need-system-of-requires (λ c κs. search needs)) (need tie.Need-place-of-requires (λ c κs. search needs))
     (need tie.Need-laid-of-requires (λ c κs. search needs)) add-left sub-left (need tie.Need-end-in-requires (λ c κs. search needs)) sub-smaller-of
     (need tie.Need-smaller-of-requires (λ c κs. search needs)) sub-a add-a add-e mul-lay-words (need tie.Need-sub-lay-words (λ c. search needs))
-    (need tie.Need-part-lay-words-start (λ c. search needs)) part-lay-words-end lay-words-requires rest-after-requires
-    (need tie.Need-told-requires (λ c κs. search needs)) (need tie.Need-add-t15 (λ c. search needs))
+    (need tie.Need-part-lay-words-start (λ c. search needs)) part-lay-words-end lay-words-requires
+    mul-crc-of (need tie.Need-sub-crc-of (λ c. search needs)) (need tie.Need-part-crc-of-start (λ c. search needs))
+    part-crc-of-end (need tie.Need-crc-of-requires (λ c κs. search needs)) rest-after-requires
+    (need tie.Need-told-requires (λ c κs. search needs)) (need tie.Need-add-t16 (λ c. search needs))
     (need tie.Need-moved-requires (λ c κs. search needs)) (need tie.Need-same-length (λ c. search needs)) returns)

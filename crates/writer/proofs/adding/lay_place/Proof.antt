@@ -53,20 +53,31 @@ lay-fixed-requires c κs =
     let g = q .before .before .before .before .args in
     part-whole (g .line .now) _ _ (sizes (found q) .within)
 
-add-t11 : tie.Need-add-t11
-add-t11 c = let z = sizes (found (c .before .before .before .before .before)) in omega (arith, z .ends)
+mul-crc-of : tie.Need-mul-crc-of
+mul-crc-of c = let z = sizes (found (c .before .before .before .before .before)) in omega (arith, z .within, z .short, z .ends)
+
+part-crc-of-end : tie.Need-part-crc-of-end
+part-crc-of-end c =
+    let l = c .before .before in
+    omega (arith, sizes (found (l .before .before .before .before)) .within, l .line .given .1)
+
+add-t12 : tie.Need-add-t12
+add-t12 c = let z = sizes (found (c .before .before .before .before .before .before .before .before)) in omega (arith, z .ends)
 
 returns : tie.Need-returns
 returns c =
-    let l = c .before .before .before in
+    let s = c .before in
+    let l = s .before .before .before .before .before in
     let q = l .before .before .before in
     let t = q .before .before .before .before in
-    place-done (found q) (t .pre .1) _ _ (l .lay-fixed .ensures) (c .moved .ensures)
+    place-done (found q) (t .pre .1) _ _ _ (l .lay-fixed .ensures) (s .crc-of .ensures) (c .moved .ensures)
 
 pub lay-place-spec : {M : Type 1} → statement M
 lay-place-spec =
     tie.close (tie.spec
     (need tie.Need-system-of-requires (λ c κs. search needs)) (need tie.Need-place-of-requires (λ c κs. search needs))
     (need tie.Need-add-k (λ c. search needs)) sub-a add-a add-e mul-lay-fixed (need tie.Need-sub-lay-fixed (λ c. search needs))
-    (need tie.Need-part-lay-fixed-start (λ c. search needs)) part-lay-fixed-end lay-fixed-requires add-t11
+    (need tie.Need-part-lay-fixed-start (λ c. search needs)) part-lay-fixed-end lay-fixed-requires
+    mul-crc-of (need tie.Need-sub-crc-of (λ c. search needs)) (need tie.Need-part-crc-of-start (λ c. search needs))
+    part-crc-of-end (need tie.Need-crc-of-requires (λ c κs. search needs)) add-t12
     (need tie.Need-moved-requires (λ c κs. search needs)) (need tie.Need-same-length (λ c. search needs)) returns)

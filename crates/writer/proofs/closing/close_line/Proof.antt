@@ -1,7 +1,7 @@
 -- `writer::closing::close_line` meets its contract. Assumes nothing.
-use mathlib.Core.Path.{_≡_, sym, ap, _∙_, subst}
+use mathlib.Core.Path.{_≡_, sym, ap₂, _∙_, subst}
 use lib.ListN.{length}
-use Prim.Native.Nat.{_+_, _≤_}
+use Prim.Native.Nat.{ℕ, _+_, _≤_}
 use Rattle.line.specs.declared.systems.System.{System}
 use Rattle.writer.specs.Closing.{sealed}
 use Rattle.writer.proofs.Refusals.{can-close}
@@ -23,11 +23,15 @@ returns c =
 system-of-requires : tie.Need-system-of-requires
 system-of-requires c κs = search needs
 
+place-of-requires : tie.Need-place-of-requires
+place-of-requires c κs = search needs
+
 seal-requires : tie.Need-seal-requires
 seal-requires c κs =
-    let a = c .before .before .before .before .before .args in
-    let fit = can-close (a .w) (a .line .now) (sym (c .before .before .before .close-fault .ensures) ∙ c .before .before .if1 .left) .fit in
-    subst (λ (s : System). (s .payload + 61 ≤ s .length) × (2 ≤ s .payload) × (s .length ≡ length (a .line .now))) (sym (c .before .system-of .ensures))
+    let o = c .before .before in
+    let a = o .before .before .before .before .args in
+    let fit = can-close (a .w) (a .line .now) (sym (o .before .before .close-fault .ensures) ∙ o .before .if1 .left) .fit in
+    subst (λ (s : System). (s .payload + 61 ≤ s .length) × (2 ≤ s .payload) × (s .length ≡ length (a .line .now))) (sym (o .system-of .ensures))
     (fit .row .room, fit .row .area, fit .long)
 
 moved-requires : tie.Need-moved-requires
@@ -38,12 +42,15 @@ same-length c = search needs
 
 returns-2 : tie.Need-returns-2
 returns-2 c =
-    let a = c .before .before .before .before .before .before .before .before .before .args in
+    let l = c .before .before .before in
+    let q = l .before .before in
+    let o = q .before in
+    let a = o .before .before .before .before .args in
     closes-numbered (a .w) (a .line .now) _
-    (close-done (a .w) (a .line .now) _ (c .before .before .before .before .before .before .before .close-fault .ensures) (c .before .before .before .before .before .before .if1 .left) _ _
-    (c .moved .ensures) (c .before .before .before .seal .ensures ∙ ap (λ (s : System). sealed s (a .w .settings .flag) (a .line .now)) (c .before .before .before .before .before .system-of .ensures)))
+    (close-done (a .w) (a .line .now) _ (o .before .before .close-fault .ensures) (o .before .if1 .left) _ _ (c .moved .ensures)
+    (l .seal .ensures ∙ ap₂ (λ (s : System) (p : ℕ). sealed s (a .w .settings .flag) p (a .w .crc) (a .line .now)) (o .system-of .ensures) (q .place-of .ensures)))
 
 pub close-line-spec : {M : Type 1} → statement M
 close-line-spec =
     tie.close
-    (tie.spec close-fault-requires returns system-of-requires seal-requires moved-requires same-length returns-2)
+    (tie.spec close-fault-requires returns system-of-requires place-of-requires seal-requires moved-requires same-length returns-2)

@@ -10,13 +10,13 @@ is-part-requires c κs = search needs
 is-impossible-requires : tie.Need-is-impossible-requires
 is-impossible-requires c κs = search needs
 
-is-misshapen-requires : tie.Need-is-misshapen-requires
-is-misshapen-requires c κs = search needs
+is-misheld-requires : tie.Need-is-misheld-requires
+is-misheld-requires c κs = search needs
 
 returns : tie.Need-returns
 unfolding impossible
-returns c = simp (c .before .is-impossible .ensures, c .before .before .is-part .ensures, c .is-misshapen .ensures)
+returns c = simp (c .before .is-impossible .ensures, c .before .before .is-part .ensures, c .is-misheld .ensures)
 
 pub is-impossible-spec : {M : Type 1} → statement M
 is-impossible-spec =
-    tie.close (tie.spec is-part-requires is-impossible-requires is-misshapen-requires returns)
+    tie.close (tie.spec is-part-requires is-impossible-requires is-misheld-requires returns)
