@@ -46,8 +46,8 @@ static uint64_t after_sixty(uint64_t x) {
     return x >> 42 ^ x >> 46 ^ x >> 47;
 }
 
-// The register c taken on over the words.
-static uint32_t crc_on(uint64_t c, const uint16_t *w, size_t n) {
+// The register c taken on over the words, six at a time.
+static uint32_t crc_few(uint64_t c, const uint16_t *w, size_t n) {
     size_t i = 0;
     for (; i + 6 <= n; i += 6) {
         uint64_t x = c;
@@ -60,8 +60,41 @@ static uint32_t crc_on(uint64_t c, const uint16_t *w, size_t n) {
     return (uint32_t)c;
 }
 
-// And over n words of filler.
+// n words in z, y: a word counts as much as it would z, z - a and z - b places further on, all three. f has z words before them, and room for z + a more.
+static inline void fold(size_t z, size_t a, size_t b, const uint16_t *restrict w, size_t n, uint16_t *restrict f, uint16_t *restrict y) {
+    size_t m = n - z;
+    for (size_t i = 0; i < m; i++)
+        f[i + z] = w[i] ^ f[i + a] ^ f[i + b] ^ f[i];
+    memset(f + m + z, 0, a * sizeof *f);
+    for (size_t i = 0; i < z; i++)
+        y[i] = w[m + i] ^ f[m + i + a] ^ f[m + i + b] ^ f[m + i];
+}
+
+enum { FOLD_FROM = 456, FOLD_TO = 1920 };
+
+// From FOLD_FROM to FOLD_TO words: in 304, then in 152, because x^3040 + x^1520 + x^1280 + 1 is a multiple of G, and so with half of each.
+static uint32_t crc_folded(uint32_t c, const uint16_t *w, size_t n) {
+    uint16_t f[FOLD_TO + 152], y[304], g[304 + 76], z[152];
+    memset(f, 0, 304 * sizeof *f);
+    f[0] = c & 0x3FF;
+    f[1] = (uint16_t)(c >> 10);
+    fold(304, 152, 128, w, n, f, y);
+    memset(g, 0, 152 * sizeof *g);
+    fold(152, 76, 64, y, 304, g, z);
+    return crc_few(0, z, 152);
+}
+
+// Any number of words.
+static uint32_t crc_on(uint32_t c, const uint16_t *w, size_t n) {
+    for (; n > FOLD_TO; n -= FOLD_TO, w += FOLD_TO)
+        c = crc_folded(c, w, FOLD_TO);
+    return n < FOLD_FROM ? crc_few(c, w, n) : crc_folded(c, w, n);
+}
+
+// And over n words of filler: 156 words that are 0 do what 25, 48 and 57 bits that are 0 do together.
 static uint32_t crc_filler(uint64_t c, size_t n) {
+    for (; n >= 156; n -= 156)
+        c = after_sixty(c << 35 ^ c << 12 ^ c << 3) ^ 0x314C3;
     for (; n >= 6; n -= 6)
         c = after_sixty(c ^ 0x802008020080200);
     for (; n > 0; n--)

@@ -1,15 +1,15 @@
 -- Laws of the CRC: only 18 bits of a register count, over an append, linear, and its register below 2^18.
 -- Assumes nothing.
-use mathlib.Core.Path.{_≡_, refl, sym, ap, ap₂, _∙_}
+use mathlib.Core.Path.{_≡_, refl, sym, ap, ap₂, _∙_, subst}
 use mathlib.Core.List.{List, [], _∷_, _++_}
-use Prim.Native.Nat.{ℕ, zero, suc, _+_, _*_, _/_, _%_, _^_, _<_}
+use Prim.Native.Nat.{ℕ, zero, suc, _+_, _-_, _*_, _/_, _%_, _^_, _<_}
 use native.Mathlib.Nat.{lt-of-le-of-lt, div-le-self, mod-lt, mod-mod, mod-eq-of-lt}
 use native.Mathlib.Omega.{arith}
 use lib.Dec.{lit<}
 use lib.Pow.{mod-mod-pow}
 use lib.Bits.{bitXor, xor-lt, xor-mod}
-use lib.ListN.{length, drop, getD, replicate, take-append-drop, replicate-append-replicate}
-use lib.Seq.{drop-drop}
+use lib.ListN.{length, drop, getD, replicate, length-drop, take-append-drop, replicate-append-replicate}
+use lib.Seq.{take-all, drop-drop}
 use Rattle.lists.specs.Lists.{part}
 use Rattle.lists.proofs.Loops.{next-drop}
 use Rattle.words.specs.Crc.{register, lowBits, bitsOf, crcBit, crcBits, crcOf, taps}
@@ -118,3 +118,24 @@ crc-lt c ws = bits-lt c (bitsOf ws)
 
 pub word-lt : (c w : ℕ) → crcBits c (lowBits 10 w) < 2 ^ 18
 word-lt c w = bits-lt c (lowBits 10 w)
+
+-- ---- loops: words taken on, with r the register after all
+-- n words at a turn
+pub crc-turn : (r x y i n : ℕ) (s : List ℕ) → y ≡ crcOf x (part i (i + n - i) s) → crcOf x (drop i s) ≡ r → (y < 2 ^ 18) × (crcOf y (drop (i + n) s) ≡ r)
+crc-turn r x y i n s e l =
+    let m : i + n - i ≡ n = omega arith in (
+      subst (λ (z : ℕ). z < 2 ^ 18) (sym e) (crc-lt x (part i (i + n - i) s)),
+      ap (λ (z : ℕ). crcOf z (drop (i + n) s)) (e ∙ ap (λ (k : ℕ). crcOf x (part i k s)) m) ∙ crc-part x i n s ∙ l,
+    )
+
+-- what is left
+pub crc-rest : (r x y i : ℕ) (s : List ℕ) → y ≡ crcOf x (part i (length s - i) s) → crcOf x (drop i s) ≡ r → y ≡ r
+crc-rest r x y i s e l = e ∙ ap (crcOf x) (take-all (length s - i) (drop i s) (simp length-drop (omega arith))) ∙ l
+
+-- k of the words of filler that are left, and m more
+pub filler-turn : (r x y left k m w : ℕ) → y ≡ crcOf x (replicate k w) → k + m ≡ left → crcOf x (replicate left w) ≡ r
+    → (y < 2 ^ 18) × (crcOf y (replicate m w) ≡ r)
+filler-turn r x y left k m w e s l = (
+  subst (λ (z : ℕ). z < 2 ^ 18) (sym e) (crc-lt x (replicate k w)),
+  ap (λ (z : ℕ). crcOf z (replicate m w)) e ∙ crc-fillers x k m w ∙ ap (λ (j : ℕ). crcOf x (replicate j w)) s ∙ l,
+)

@@ -57,11 +57,11 @@ pub xor-cross : (a b c d : ℕ) → bitXor (bitXor a b) (bitXor c d) ≡ bitXor 
 xor-cross a b c d = sym (xor-assoc (bitXor a b) c d) ∙ ap (λ (x : ℕ). bitXor x d) (xor-swap a b c) ∙ xor-assoc (bitXor a c) b d
 
 -- what is xored twice is gone
+pub xor-back : (a c : ℕ) → bitXor (bitXor a c) c ≡ a
+xor-back a c = xor-assoc a c c ∙ ap (bitXor a) (xor-self c) ∙ xor-zero-r a
+
 pub xor-cancel : (a b c : ℕ) → bitXor a c ≡ bitXor b c → a ≡ b
-xor-cancel a b c e = sym (back a) ∙ ap (λ (x : ℕ). bitXor x c) e ∙ back b
-  where
-    back : (x : ℕ) → bitXor (bitXor x c) c ≡ x
-    back x = xor-assoc x c c ∙ ap (bitXor x) (xor-self c) ∙ xor-zero-r x
+xor-cancel a b c e = sym (xor-back a c) ∙ ap (λ (x : ℕ). bitXor x c) e ∙ xor-back b c
 
 -- a digit times a number
 pub xor-times : (k x y : ℕ) → x < 2 → y < 2 → bitXor x y * k ≡ bitXor (x * k) (y * k)

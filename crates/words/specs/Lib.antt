@@ -5,3 +5,4 @@ pub mod Checksum
 pub mod Crc
 pub mod Shifts
 pub mod Polynomial
+pub mod Folds
