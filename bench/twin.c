@@ -1,7 +1,8 @@
 // The jobs of the program `pace`, written by hand in C: lines of system 0 written, checked and read in memory.
-//   twin WHAT JOB MODE ROUNDS     WHAT: write, read, check; JOB: a, b, c, d, e, f; MODE: 8, 9
+//   twin WHAT JOB MODE ROUNDS     WHAT: write, read, check; JOB: a to i; MODE: 8, 9
 // Jobs: a variable blocks of 10,000 values, flag 01h; b of 100 values; c fixed blocks 21h, flag 00h; d filler lines, flag 01h;
-// e, f, with WHAT write alone: a filler line, or a line full of a's blocks, closed again and again.
+// with WHAT write alone: e, f a filler line, or a line full of a's blocks, closed again and again; g c's blocks, those of a line in one list;
+// h variable blocks of 4 values, flag 01h; i the same in one list.
 // A round is eight lines. What is printed is a digest, which `pace` has to print too.
 #include <stdint.h>
 #include <stdio.h>
@@ -246,11 +247,10 @@ static void put_values(int mode, const uint16_t *v, size_t n, uint16_t *out) {
 
 static size_t min(size_t a, size_t b) { return a < b ? a : b; }
 
-static int add_fault(const Writer *w, unsigned kind, const uint16_t *v, size_t n, size_t length) {
+// 17 to 20.
+static int block_fault(const Writer *w, unsigned kind, const uint16_t *v, size_t n) {
     unsigned limit = w->mode == 8 ? 256 : 512, bad = 0;
-    int fault = writer_fault(w, length), fixed = w->place != NONE && w->settings.block != VARIABLE;
-    if (fault)
-        return fault;
+    int fixed = w->place != NONE && w->settings.block != VARIABLE;
     for (size_t i = 0; i < n; i++)
         bad |= v[i] >= limit;
     if (bad)
@@ -262,9 +262,9 @@ static int add_fault(const Writer *w, unsigned kind, const uint16_t *v, size_t n
     return w->place == NONE || (w->laid && (w->kind != kind || w->n != n)) ? 20 : 0;
 }
 
-// Lays what fits of the block; says whether it is finished.
-static int add_block(Writer *w, unsigned kind, const uint16_t *v, size_t n, uint16_t *line, size_t length, int *finished) {
-    int fault = add_fault(w, kind, v, n, length);
+// Lays what fits of the block, where neither 1 nor 2 holds; says whether it is finished.
+static int lay_block(Writer *w, unsigned kind, const uint16_t *v, size_t n, uint16_t *line, int *finished) {
+    int fault = block_fault(w, kind, v, n);
     if (fault)
         return fault;
     uint16_t *at = line + START + w->place;
@@ -296,6 +296,26 @@ static int add_block(Writer *w, unsigned kind, const uint16_t *v, size_t n, uint
     if (*finished)
         w->laid = 0;
     return 0;
+}
+
+static int add_block(Writer *w, unsigned kind, const uint16_t *v, size_t n, uint16_t *line, size_t length, int *finished) {
+    int fault = writer_fault(w, length);
+    return fault ? fault : lay_block(w, kind, v, n, line, finished);
+}
+
+// The blocks of a list, until one is refused or unfinished: how many were finished. A broken-off entry is 28.
+static int add_blocks(Writer *w, const uint16_t *list, size_t words, uint16_t *line, size_t length, size_t *finished) {
+    int fault = writer_fault(w, length), whole = 1;
+    *finished = 0;
+    for (size_t i = 0; !fault && i < words; i += 2 + list[i + 1]) {
+        if (words - i < 2 || words - i - 2 < list[i + 1])
+            return 28;
+        fault = lay_block(w, list[i], list + i + 2, list[i + 1], line, &whole);
+        if (fault || !whole)
+            break;
+        ++*finished;
+    }
+    return fault;
 }
 
 static int close_line(Writer *w, uint16_t *line, size_t length) {
@@ -515,12 +535,16 @@ static int read_call(Reader *r, const uint16_t *line, size_t length, uint16_t *r
 // ---- the jobs
 static uint16_t lines[BATCH][LENGTH], room[ROOM], values[MOST];
 
+static int by_list(int job) { return job == 'g' || job == 'i'; }
+
 static void write_round(Writer *w, const Settings *s, int job) {
-    size_t n = job == 'a' ? MOST : job == 'b' ? 100 : 4;
+    size_t n = job == 'a' ? MOST : job == 'b' ? 100 : 4, many;
     for (int k = 0; k < BATCH; k++) {
-        int finished = job != 'd';
+        int finished = job != 'd' && !by_list(job);
         if (open_line(w, s, w->number % LINES + 1, lines[k], LENGTH))
             return;
+        if (by_list(job))
+            add_blocks(w, values, 1800, lines[k], LENGTH, &many);
         while (finished && !add_block(w, 7, values, n, lines[k], LENGTH, &finished))
             ;
         if (close_line(w, lines[k], LENGTH))
@@ -576,17 +600,21 @@ int main(int argc, char **argv) {
         return 1;
     int what = argv[1][0], job = argv[2][0], mode = atoi(argv[3]);
     long rounds = atol(argv[4]);
-    Settings s = {.code = 1, .block = job == 'c' ? 0x21 : VARIABLE, .flag = job != 'c'};
+    int fixed = job == 'c' || job == 'g';
+    Settings s = {.code = 1, .block = fixed ? 0x21 : VARIABLE, .flag = !fixed};
     memset(s.to, 1, sizeof s.to);
     memset(s.from, 2, sizeof s.from);
     for (int i = 0; i < MOST; i++)
         values[i] = (uint16_t)(i * 7 + 3) % (mode == 8 ? 256 : 512);
+    for (int i = MOST - 1; by_list(job) && i >= 0; i--)
+        values[i] = i % 6 == 0 ? 7 : i % 6 == 1 ? 4 : values[i % 6 - 2];
     Writer w = {.place = NONE, .mode = mode, .crc = CRC_START};
     uint32_t digest = 0;
     long writes = what == 'w' ? rounds : 1;
-    if (job >= 'e')
+    int closing = job == 'e' || job == 'f';
+    if (closing)
         close_rounds(&w, &s, job, writes);
-    for (long i = 0; job < 'e' && i < writes; i++)
+    for (long i = 0; !closing && i < writes; i++)
         write_round(&w, &s, job);
     for (long i = 0; what != 'w' && i < rounds; i++)
         digest = what == 'r' ? read_round(mode, digest) : check_round(mode, digest);

@@ -3,6 +3,7 @@ import collections
 import sys
 
 import kinds
+import lists
 from answers import answer
 from reader import IDLE, Reader, said
 from states import BUFFER, COUNT, HEADING, READER, SETTINGS, WRITER, of_phase, to_numbers, to_reader, to_writer
@@ -10,7 +11,7 @@ from words import VARIABLE, by_perl, by_python, byte_form, checksum, crc_of, crc
 from writer import DONE, Writer
 
 STEPS = {"new", "open", "close", "words", "index", "data", "mix", "read", "view", "last", "at", "phase", "settings"}
-STEPS |= {"Put", "Tell", "Impossible", "Make", "Room", "Open", "Add", "Close", "Words", "Sum", "Header", "Line"}
+STEPS |= {"Put", "Tell", "Impossible", "Make", "Room", "Open", "Add", "Close", "Words", "Sum", "Header", "Line", "Batch"}
 
 
 class Register:
@@ -174,6 +175,13 @@ class Play:
         self.tell_call("added", before, given, register)
         if given == DONE:
             self.see_end(count, before.rest is not None)
+
+    def big_batch(self, length, count):
+        before = to_writer(self.scope, self.states[WRITER])
+        words = (self.room + [0] * lists.MOST)[: min(count, lists.MOST)]
+        (finished, given), register = self.lent(length, lambda w, line: lists.add_list(w, words, line))
+        self.seen.update(lists.met(before, length, words, finished, given))
+        self.rows.append(["batched", finished, given, register])
 
     def tell_call(self, name, before, given, register):
         system, mode = self.states[WRITER][:2]

@@ -8,6 +8,7 @@ import bursts
 import courses
 import edges
 import lines
+import lists
 import put
 import reserved
 import running
@@ -299,7 +300,7 @@ def script(scope):
     for part in drops, long_blocks, phases, mixes, fixed, fixed_later, jumps, refusals, unfit, impossible:
         part(book)
     # A new part stands behind all others, so that the steps and rows there are stay as they are.
-    for part in lines.PARTS + courses.PARTS + put.PARTS + edges.PARTS + reserved.PARTS + bursts.PARTS + running.PARTS:
+    for part in lines.PARTS + courses.PARTS + put.PARTS + edges.PARTS + reserved.PARTS + bursts.PARTS + running.PARTS + lists.PARTS:
         part(book)
     return "".join(f"{step}\n" for step in book.steps)
 

@@ -5,7 +5,7 @@ use Prim.Native.Nat.{ℕ, _<_}
 use mathlib.Core.Bool.{Bool, true, false, _&&_, _||_, not}
 use mathlib.Core.Logic.{_⊎_, inr}
 use mathlib.Core.List.{List, [], _∷_, _++_, map}
-use mathlib.Core.Path.{_≡_, refl, sym, ap, subst}
+use mathlib.Core.Path.{_≡_, refl, sym, ap, _∙_, subst}
 use native.Mathlib.Omega.{arith}
 use lib.Dec.{eqb, leb, ltb}
 use lib.IntN.{pos}
@@ -29,6 +29,8 @@ use Rattle.writer.specs.Answers.{answerNumbers, laidNumbers}
 use Rattle.writer.specs.Opening.{openBlocked, openFaults, opening}
 use Rattle.writer.specs.Adding.{valued, addFaults, adding}
 use Rattle.writer.specs.Closing.{closeFaults, closing}
+use Rattle.writer.specs.Batch.{Entry, whole, stopNumbers, Batched, layAll, batchFaults, batching}
+use Rattle.writer.proofs.BatchLaws.{entries-one}
 use Rattle.machine.specs.Phases.{phaseNumbers}
 use Rattle.machine.specs.declared.phase.Phase.the-variants.{Data}
 use Rattle.reader.specs.declared.state.Reader.{Reader}
@@ -195,6 +197,57 @@ close-numbers w line = demand-1 .close-line w line .numbers
 pub close-leaves-20 : (s : Settings) (line : List ℕ) → answerNumbers (closing (halfway s (At 3)) line .answer) ≡ 20 ∷ []
     → (closing (halfway s (At 3)) line .state ≡ halfway s (At 3)) × (closing (halfway s (At 3)) line .line ≡ line)
 close-leaves-20 s line is = demand-1 .close-leaves (halfway s (At 3)) line 20 is
+
+-- ---- a list of blocks, of the same writer
+-- 2, of an empty list; and then of every list, which changes nothing
+pub none-2 : (s : Settings) (line : List ℕ) → impossible (halfway s (At 3)) ≡ true → ((n : ℕ) → n < 2 → holdsAt n (batchFaults (halfway s (At 3)) (length line)) ≡ false)
+    → stopNumbers (batching (halfway s (At 3)) line [] .stop) ≡ 2 ∷ []
+none-2 s line bad low = demand-1 .no-blocks (halfway s (At 3)) line .gives 2 (record { holds = ap (λ (b : Bool). b || false) bad; lowest = low })
+
+pub none-2-only : (s : Settings) (line : List ℕ) → stopNumbers (batching (halfway s (At 3)) line [] .stop) ≡ 2 ∷ []
+    → (impossible (halfway s (At 3)) ≡ true) × (fitsLength 1 9 (length line) ≡ true)
+none-2-only s line is =
+    let x = demand-1 .no-blocks (halfway s (At 3)) line .only 2 is in
+    (holds _ (x .holds), stands _ (x .lowest 1 (omega arith)))
+
+pub none-serves : (s : Settings) (line : List ℕ) → ((n : ℕ) → holdsAt n (batchFaults (halfway s Shut) (length line)) ≡ false)
+    → stopNumbers (batching (halfway s Shut) line [] .stop) ≡ 0 ∷ 1 ∷ []
+none-serves s line none = demand-1 .no-blocks (halfway s Shut) line .serves none
+
+pub none-unless : (s : Settings) (line : List ℕ) → stopNumbers (batching (halfway s Shut) line [] .stop) ≡ 0 ∷ 1 ∷ [] → fitsLength 1 9 (length line) ≡ true
+none-unless s line is = stands _ (demand-1 .no-blocks (halfway s Shut) line .unless is 1)
+
+pub none-numbers : (w : Writer) (line : List ℕ) → (map (λ (r : Refusal). r .number) (batchFaults w (length line)) ≡ 1 ∷ 2 ∷ []) × (rising (batchFaults w (length line)) ≡ true)
+none-numbers w line = let x = demand-1 .no-blocks w line in (x .numbers, x .rises)
+
+pub blocks-leave-2 : (s : Settings) (line : List ℕ) → stopNumbers (batching (halfway s (At 3)) line [] .stop) ≡ 2 ∷ []
+    → (stopNumbers (batching (halfway s (At 3)) line (5 ∷ 0 ∷ []) .stop) ≡ 2 ∷ [])
+    × ((batching (halfway s (At 3)) line (5 ∷ 0 ∷ []) .finished ≡ 0)
+    × ((batching (halfway s (At 3)) line (5 ∷ 0 ∷ []) .state ≡ halfway s (At 3)) × (batching (halfway s (At 3)) line (5 ∷ 0 ∷ []) .line ≡ line)))
+blocks-leave-2 s line is = demand-1 .blocks-leave (halfway s (At 3)) line (5 ∷ 0 ∷ []) 2 is
+
+-- one word alone is broken off, 28, also with no line open
+pub blocks-28 : (s : Settings) (line : List ℕ) → stopNumbers (batching (halfway s Shut) line [] .stop) ≡ 0 ∷ 1 ∷ []
+    → (stopNumbers (batching (halfway s Shut) line (5 ∷ []) .stop) ≡ 28 ∷ []) × (batching (halfway s Shut) line (5 ∷ []) .state ≡ halfway s Shut)
+blocks-28 s line is =
+    let e = demand-1 .blocks-served (halfway s Shut) line (5 ∷ []) is ∙ ap (layAll (halfway s Shut) line 0) (entries-one 5) in
+    let x = demand-1 .entry-broken (halfway s Shut) line 0 [] in
+    (ap (λ (b : Batched). stopNumbers (b .stop)) e ∙ x .0, ap (λ (b : Batched). b .state) e ∙ x .1 .1 .0)
+
+-- behind four finished blocks: one that is refused with 17, one that is unfinished, and one that is finished
+pub entry-17 : (s : Settings) (line : List ℕ) (kind : ℕ) (vs : List ℕ) (es : List Entry) → laidNumbers (adding (halfway s (At 3)) line kind vs .answer) ≡ 17 ∷ []
+    → (stopNumbers (layAll (halfway s (At 3)) line 4 (whole kind vs ∷ es) .stop) ≡ 17 ∷ []) × (layAll (halfway s (At 3)) line 4 (whole kind vs ∷ es) .finished ≡ 4)
+entry-17 s line kind vs es is = let x = demand-1 .entry-refused (halfway s (At 3)) line 4 kind vs es 17 is in (x .0, x .1 .0)
+
+pub entry-part : (s : Settings) (line : List ℕ) (kind : ℕ) (vs : List ℕ) (es : List Entry) → laidNumbers (adding (halfway s (At 3)) line kind vs .answer) ≡ 0 ∷ 0 ∷ []
+    → (layAll (halfway s (At 3)) line 4 (whole kind vs ∷ es) .finished ≡ 4)
+    × (layAll (halfway s (At 3)) line 4 (whole kind vs ∷ es) .state ≡ adding (halfway s (At 3)) line kind vs .state)
+entry-part s line kind vs es is = let x = demand-1 .entry-unfinished (halfway s (At 3)) line 4 kind vs es is in (x .1 .0, x .1 .1 .0)
+
+pub entry-whole : (s : Settings) (line : List ℕ) (kind : ℕ) (vs : List ℕ) → laidNumbers (adding (halfway s (At 3)) line kind vs .answer) ≡ 0 ∷ 1 ∷ []
+    → layAll (halfway s (At 3)) line 4 (whole kind vs ∷ []) .finished ≡ 5
+unfolding layAll
+entry-whole s line kind vs is = ap (λ (b : Batched). b .finished) (demand-1 .entry-finished (halfway s (At 3)) line 4 kind vs [] is)
 
 -- ---- the reader of system 1 in 9-bit mode
 -- after line 7, with 60 values collected of a block of type 5 with 100

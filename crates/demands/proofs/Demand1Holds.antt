@@ -27,6 +27,11 @@ use Rattle.writer.specs.Opening.{openFaults, openFault, opening}
 use Rattle.writer.specs.Adding.{addFaults, addFault, adding}
 use Rattle.writer.specs.Closing.{closeFaults, closeFault, closing}
 use Rattle.writer.specs.Numbers.{answersBy, allFits, laidBy}
+use Rattle.writer.specs.declared.state.Laid.{Laid}
+use Rattle.writer.specs.declared.state.Laid.the-variants.{Refused as NotLaid, Finished, Unfinished}
+use Rattle.writer.specs.Batch.{Entry, whole, broken, entriesOf, stopNumbers, Batched, behind, layAll, batchFaults, batchFault, batching, stopsAt, batchBy}
+use Rattle.writer.proofs.AnswerLaws.{laid-injective}
+use Rattle.writer.proofs.BatchLaws.{entries-none, batch-refused, batch-laid, batch-numbers}
 use Rattle.writer.proofs.StateLaws.{open-rising, add-rising, close-rising, not-opened}
 use Rattle.writer.proofs.Calls.{close-refused, add-refused}
 use Rattle.writer.proofs.NumberLaws.{open-numbers, add-numbers, close-numbers}
@@ -189,6 +194,73 @@ add-left w line kind vs k e =
     let is = add-refused w line kind vs (addFault w (length line) kind vs) refl (λ z. omega (arith, x .0, x .1, z)) in
     (ap (λ (l : Added). l .state) (sym is), ap (λ (l : Added). l .line) (sym is))
 
+-- ---- a list of blocks
+given-batch : (n k : ℕ) (ns : List ℕ) → n ≡ k → 1 ≤ k → batchBy n ns ≡ k ∷ []
+given-batch zero k ns e h = absurd (omega (arith, e, h))
+given-batch (suc n) k ns e h = ap (λ (m : ℕ). m ∷ []) e
+
+batch-given : (n k : ℕ) → batchBy n (0 ∷ 1 ∷ []) ≡ k ∷ [] → (n ≡ k) × (1 ≤ k)
+batch-given zero k e = absurd (omega (arith, long e))
+batch-given (suc n) k e = (first e, omega (arith, first e))
+
+batch-served : (n : ℕ) → batchBy n (0 ∷ 1 ∷ []) ≡ 0 ∷ 1 ∷ [] → n ≡ 0
+batch-served zero e = refl
+batch-served (suc n) e = absurd (omega (arith, long e))
+
+none-numbers : (w : Writer) (line : List ℕ) → stopNumbers (batching w line [] .stop) ≡ batchBy (batchFault w (length line)) (0 ∷ 1 ∷ [])
+unfolding stopsAt
+none-numbers w line = batch-numbers w line [] ∙ ap (λ (es : List Entry). batchBy (batchFault w (length line)) (stopsAt w line es)) entries-none
+
+none-numbered : (w : Writer) (line : List ℕ)
+    → Numbered (batchFaults w (length line)) (1 ∷ 2 ∷ []) (λ (k : ℕ). stopNumbers (batching w line [] .stop) ≡ k ∷ []) (stopNumbers (batching w line [] .stop) ≡ 0 ∷ 1 ∷ [])
+unfolding batchFault
+none-numbered w line =
+    let n = batchFault w (length line) in
+    let e = none-numbers w line in
+    numbered (batchFaults w (length line)) _ _ _ refl refl n refl (λ k d h. e ∙ given-batch n k (0 ∷ 1 ∷ []) d h) (λ k g. batch-given n k (sym e ∙ g))
+    (λ z. e ∙ ap (λ (m : ℕ). batchBy m (0 ∷ 1 ∷ [])) z) (λ s. batch-served n (sym e ∙ s))
+
+blocks-left : (w : Writer) (line blocks : List ℕ) (k : ℕ) → stopNumbers (batching w line [] .stop) ≡ k ∷ [] →
+    let x = batching w line blocks in
+    (stopNumbers (x .stop) ≡ k ∷ []) × ((x .finished ≡ 0) × ((x .state ≡ w) × (x .line ≡ line)))
+blocks-left w line blocks k e =
+    let g = batch-given (batchFault w (length line)) k (sym (none-numbers w line) ∙ e) in
+    let is = sym (batch-refused w line blocks (batchFault w (length line)) refl (λ z. omega (arith, g .0, g .1, z))) in
+    (ap (λ (x : Batched). stopNumbers (x .stop)) is ∙ ap (λ (m : ℕ). m ∷ []) (g .0), (ap (λ (x : Batched). x .finished) is, (ap (λ (x : Batched). x .state) is, ap (λ (x : Batched). x .line) is)))
+
+blocks-laid : (w : Writer) (line blocks : List ℕ) → stopNumbers (batching w line [] .stop) ≡ 0 ∷ 1 ∷ [] → batching w line blocks ≡ layAll w line 0 (entriesOf blocks)
+blocks-laid w line blocks e = batch-laid w line blocks (batch-served (batchFault w (length line)) (sym (none-numbers w line) ∙ e))
+
+off-by-28 : (w : Writer) (line : List ℕ) (done : ℕ) (es : List Entry) →
+    let x = layAll w line done (broken ∷ es) in
+    (stopNumbers (x .stop) ≡ 28 ∷ []) × ((x .finished ≡ done) × ((x .state ≡ w) × (x .line ≡ line)))
+unfolding layAll
+off-by-28 w line done es = (refl, (refl, (refl, refl)))
+
+module _ (w : Writer) (line : List ℕ) (done kind : ℕ) (vs : List ℕ) (es : List Entry) where
+  -- the entry, by what the addition answers
+  entry-by : (a : Laid) → laidNumbers (adding w line kind vs .answer) ≡ laidNumbers a
+      → layAll w line done (whole kind vs ∷ es) ≡ behind a (adding w line kind vs) done (layAll (adding w line kind vs .state) (adding w line kind vs .line) (suc done) es)
+  unfolding layAll
+  entry-by a e =
+      let x = adding w line kind vs in
+      ap (λ (b : Laid). behind b x done (layAll (x .state) (x .line) (suc done) es)) (laid-injective (x .answer) a e)
+
+  entry-refuses : (k : ℕ) → laidNumbers (adding w line kind vs .answer) ≡ k ∷ [] →
+      let x = layAll w line done (whole kind vs ∷ es) in
+      (stopNumbers (x .stop) ≡ k ∷ []) × ((x .finished ≡ done) × ((x .state ≡ w) × (x .line ≡ line)))
+  entry-refuses k e =
+      let is = entry-by (NotLaid k) e in
+      let same = add-left w line kind vs k e in
+      (ap (λ (x : Batched). stopNumbers (x .stop)) is, (ap (λ (x : Batched). x .finished) is, (ap (λ (x : Batched). x .state) is ∙ same .0, ap (λ (x : Batched). x .line) is ∙ same .1)))
+
+  entry-stays : laidNumbers (adding w line kind vs .answer) ≡ 0 ∷ 0 ∷ [] →
+      let x = layAll w line done (whole kind vs ∷ es) in
+      (stopNumbers (x .stop) ≡ 0 ∷ 0 ∷ []) × ((x .finished ≡ done) × ((x .state ≡ adding w line kind vs .state) × (x .line ≡ adding w line kind vs .line)))
+  entry-stays e =
+      let is = entry-by Unfinished e in
+      (ap (λ (x : Batched). stopNumbers (x .stop)) is, (ap (λ (x : Batched). x .finished) is, (ap (λ (x : Batched). x .state) is, ap (λ (x : Batched). x .line) is)))
+
 -- ---- reading: what a call does, by the lowest number whose condition holds
 data Outcome (st : Reader) (line room : List ℕ) (n : ℕ) : Type 0 where
   is-early : 1 ≤ n → n ≤ 2 → reading st line room ≡ reply (record { event = Refused n false; state = st }) room → Outcome st line room n
@@ -332,4 +404,11 @@ demand-1 = record {
   read = reads;
   read-leaves = λ st line room k g h. leaves st line room (lowestOf (readRefusals st line room)) k (does st line room) g h;
   read-forgets = λ st line room k g h. forgets st line room (lowestOf (readRefusals st line room)) k (does st line room) g h;
+  no-blocks = none-numbered;
+  blocks-leave = blocks-left;
+  blocks-served = blocks-laid;
+  entry-broken = off-by-28;
+  entry-refused = entry-refuses;
+  entry-unfinished = entry-stays;
+  entry-finished = λ w line done kind vs es e. entry-by w line done kind vs es Finished e;
 }

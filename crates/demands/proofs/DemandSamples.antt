@@ -29,6 +29,7 @@ use Rattle.writer.specs.Answers.{answerNumbers, laidNumbers}
 use Rattle.writer.specs.Opening.{openBlocked, openFault, openWords, opening}
 use Rattle.writer.specs.Adding.{valued, illShaped, addFault, adding}
 use Rattle.writer.specs.Closing.{closeFault, sealed, closing}
+use Rattle.writer.specs.Batch.{entriesIn, entriesOf, layAll, batchFault, batching}
 use Rattle.writer.specs.Filling.{pieceOf}
 use Rattle.reader.specs.declared.jump.Jump.the-variants.{Unknown as NotKnown, Known}
 use Rattle.reader.specs.State.{capacity, fresh}
@@ -40,8 +41,10 @@ use Rattle.demands.specs.Hearing.{Heard, is-begun, is-block, is-end, Rea
 use Rattle.demands.specs.Damage.{Fate, kept, removed, replaced, remain, RefusedIfReplaced, longestRun, keptAt, survivors}
 use Rattle.demands.specs.Demand2.{givenBack}
 use Rattle.demands.specs.Demand3.{Consecutive, Transmission}
+use Rattle.demands.specs.Batches.{Mixed, single, many, singly, batchCalls, doneBy, spelled, linesFresh, spelledFresh}
 use Rattle.demands.proofs.Demand2Holds.{demand-2}
 use Rattle.demands.proofs.Demand3Holds.{demand-3}
+use Rattle.demands.proofs.BatchesHold.{batches}
 use Rattle.demands.proofs.FrameCourse.{head-of, piece as frame-piece, block-of}
 use Rattle.demands.proofs.FrameNeeded.{mixed, mixes-them, all-values}
 
@@ -90,7 +93,7 @@ variable = settings 0xC1 0
 pub fixed : Settings
 fixed = settings 0x21 0
 
-opens-20 : Call
+pub opens-20 : Call
 unfolding variable
 opens-20 = opens false false 20 variable (held 0xC1 0 (lit< tt) (lit< tt)) blank
 
@@ -140,6 +143,25 @@ pub two-heard-once : demand-2 .readable 0 8 two-lines (replicate 16384 0) .heard
 two-heard-once =
     let x = demand-2 .readable 0 8 two-lines (replicate 16384 0) in
     two-heard-by-all (replicate 16384 0) (length-replicate {A = ℕ} 16384 0) (x .heard) (x .reads)
+
+-- ---- 02, Item 9: the same first block by a list, with a block whose value is refused and a word left over behind it
+pub by-list : List Mixed
+unfolding opens-20
+by-list = single opens-20 ∷ many (1 ∷ 3 ∷ 0 ∷ 255 ∷ 1 ∷ 2 ∷ 1 ∷ 256 ∷ 9 ∷ []) ∷ single closes ∷ []
+
+-- the single calls that it is: the entry behind the refused one is not reached
+pub list-spelled : spelledFresh 0 8 by-list ≡ opens-20 ∷ adds 1 (0 ∷ 255 ∷ 1 ∷ []) ∷ adds 2 (256 ∷ []) ∷ closes ∷ []
+unfolding sent by-list entriesIn entriesOf layAll batchFault batching singly batchCalls doneBy spelled
+list-spelled = refl
+
+list-given : givenBack 525 Unknown (sentFresh 0 8 (spelledFresh 0 8 by-list)) ≡ is-begun 20 NotKnown false variable ∷ is-block (block 1 (0 ∷ 255 ∷ 1 ∷ [])) ∷ is-end ∷ []
+unfolding sent by-list entriesIn entriesOf layAll batchFault batching singly batchCalls doneBy spelled givenBack folded
+list-given = refl
+
+-- what every fresh reader hears of its line
+pub list-heard : (room : List ℕ) → length room ≡ capacity → (hs : List Heard) → Reads (fresh 0 8) room (linesFresh 0 8 by-list) hs
+    → hs ≡ is-begun 20 NotKnown false variable ∷ is-block (block 1 (0 ∷ 255 ∷ 1 ∷ [])) ∷ is-end ∷ []
+list-heard room long hs r = batches .heard 0 8 by-list room long hs r ∙ list-given
 
 -- ---- demand 3: system 0, 9 bits, variable lines of flag 01h: lines 523, 524, 525, 1 and 2. No line is full, because the CRC of each word
 -- laid is computed here.

@@ -39,10 +39,12 @@ pub mod FrameCourse
 pub mod FrameNeeded
 pub mod AsLent
 pub mod Demand3Holds
+pub mod BatchesHold
 pub mod PCases
 pub mod DemandSamples
 pub mod NumberSamples
 pub mod Demand1Cited
 pub mod Reserved
 pub mod DemandCited
+pub mod BatchesCited
 pub mod AreaAnswers

@@ -1,7 +1,7 @@
 -- DEMAND 1. Every entry point takes any words, lengths, settings and states, and ends. Bad input gets exactly the refusal that document 01
 -- numbers, exactly when its condition holds, with buffers and state as stated there.
--- "Takes any": each field is for all states, settings, numbers and words, and the contracts of `check`, `open_line`, `add_block`, `close_line`
--- and `read`, which have no `requires`, say that the functions are these definitions. "And ends" is not a sentence of this page but the
+-- "Takes any": each field is for all states, settings, numbers and words, and the contracts of `check`, `open_line`, `add_block`, `add_blocks`,
+-- `close_line` and `read`, which have no `requires`, say that the functions are these definitions. "And ends" is not a sentence of this page but the
 -- checker's rule: it accepts a function only with a number that falls with each turn of each loop and with each call in a cycle of calls.
 -- The conditions are 01's, in the order of its table:
 --    1  unknown system or mode; line not L long; room not 16,384        `fitsLength`, and in `readFaultsIn`
@@ -21,8 +21,9 @@
 --    18 n above 16,384 or type above FFh; fixed line open: ..           `illShaped`
 --    19 no place (variable: word) left in the open line                 `isFull`
 --    20 opening: .. ; adding: .. ; closing: ..                          `openBlocked`; in `addFaults`, `isOther`; in `closeFaults`
+--    28 entry broken off, by 02, Item 9: a list of blocks               `broken`, in `entriesIn`
 -- Assumes nothing.
-use Prim.Native.Nat.{ℕ, _≤_, _<_}
+use Prim.Native.Nat.{ℕ, suc, _≤_, _<_}
 use mathlib.Core.Bool.{Bool, true, false, _&&_}
 use mathlib.Core.Logic.{_⊎_}
 use mathlib.Core.List.{List, [], _∷_, _++_, map}
@@ -42,6 +43,7 @@ use Rattle.writer.specs.Answers.{answerNumbers, laidNumbers}
 use Rattle.writer.specs.Opening.{openFaults, opening}
 use Rattle.writer.specs.Adding.{addFaults, adding}
 use Rattle.writer.specs.Closing.{closeFaults, closing}
+use Rattle.writer.specs.Batch.{Entry, whole, broken, entriesOf, stopNumbers, layAll, batchFaults, batching}
 use Rattle.machine.specs.Phases.{phaseNumbers, isBusy}
 use Rattle.reader.specs.declared.state.Reader.{Reader}
 use Rattle.reader.specs.State.{capacity}
@@ -133,3 +135,27 @@ pub record Demand1 : Type 0 where
   -- 1 and 2 leave everything; refused with 3-16: phase idle, last number none, settings kept, and the room as it was
   pub read-leaves : (st : Reader) (line room : List ℕ) (k : ℕ) → ReadRefused st line room k → k ≤ 2 → (reading st line room .told .state ≡ st) × (reading st line room .room ≡ room)
   pub read-forgets : (st : Reader) (line room : List ℕ) (k : ℕ) → ReadRefused st line room k → 3 ≤ k → Forgets st (reading st line room .told .state) × (reading st line room .room ≡ room)
+  -- a list of blocks (02, Item 9): its own refusals are 1 and 2, also of an empty list, which else is all finished
+  pub no-blocks : (w : Writer) (line : List ℕ)
+      → Numbered (batchFaults w (length line)) (1 ∷ 2 ∷ []) (λ (k : ℕ). stopNumbers (batching w line [] .stop) ≡ k ∷ []) (stopNumbers (batching w line [] .stop) ≡ 0 ∷ 1 ∷ [])
+  -- every list gets them, with no block finished, and line and state are left
+  pub blocks-leave : (w : Writer) (line blocks : List ℕ) (k : ℕ) → stopNumbers (batching w line [] .stop) ≡ k ∷ [] →
+      let x = batching w line blocks in
+      (stopNumbers (x .stop) ≡ k ∷ []) × ((x .finished ≡ 0) × ((x .state ≡ w) × (x .line ≡ line)))
+  -- else its entries are laid, each judged when it is reached
+  pub blocks-served : (w : Writer) (line blocks : List ℕ) → stopNumbers (batching w line [] .stop) ≡ 0 ∷ 1 ∷ [] → batching w line blocks ≡ layAll w line 0 (entriesOf blocks)
+  -- 28: broken off; nothing of it is laid
+  pub entry-broken : (w : Writer) (line : List ℕ) (done : ℕ) (es : List Entry) →
+      let x = layAll w line done (broken ∷ es) in
+      (stopNumbers (x .stop) ≡ 28 ∷ []) × ((x .finished ≡ done) × ((x .state ≡ w) × (x .line ≡ line)))
+  -- a whole entry: as a single addition, 17-20. A refused one stops and leaves line and state; ..
+  pub entry-refused : (w : Writer) (line : List ℕ) (done kind : ℕ) (vs : List ℕ) (es : List Entry) (k : ℕ) → laidNumbers (adding w line kind vs .answer) ≡ k ∷ [] →
+      let x = layAll w line done (whole kind vs ∷ es) in
+      (stopNumbers (x .stop) ≡ k ∷ []) × ((x .finished ≡ done) × ((x .state ≡ w) × (x .line ≡ line)))
+  -- .. an unfinished one stops, and isn't counted; ..
+  pub entry-unfinished : (w : Writer) (line : List ℕ) (done kind : ℕ) (vs : List ℕ) (es : List Entry) → laidNumbers (adding w line kind vs .answer) ≡ 0 ∷ 0 ∷ [] →
+      let x = layAll w line done (whole kind vs ∷ es) in
+      (stopNumbers (x .stop) ≡ 0 ∷ 0 ∷ []) × ((x .finished ≡ done) × ((x .state ≡ adding w line kind vs .state) × (x .line ≡ adding w line kind vs .line)))
+  -- .. and behind a finished one, which is counted, come the others
+  pub entry-finished : (w : Writer) (line : List ℕ) (done kind : ℕ) (vs : List ℕ) (es : List Entry) → laidNumbers (adding w line kind vs .answer) ≡ 0 ∷ 1 ∷ []
+      → layAll w line done (whole kind vs ∷ es) ≡ layAll (adding w line kind vs .state) (adding w line kind vs .line) (suc done) es

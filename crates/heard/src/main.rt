@@ -8,6 +8,7 @@ mod lent; // lent.rt: which part of the line a step is lent
 mod lay; // lay.rt: words into a line, numbers into a state
 mod told; // told.rt: events and the reader's state in a row
 mod calls; // calls.rt: the writer and the reader called
+mod batch; // batch.rt: the writer called with a list of blocks
 mod shown; // shown.rt: rows of words, sums, headers, checks and states
 mod play; // play.rt: which step does what
 

@@ -1,4 +1,5 @@
 // Which step does what, by the first letter of its name. What a step is, and its row, is said where it is done.
+use crate::batch;
 use crate::calls;
 use crate::kept;
 use crate::lay;
@@ -23,6 +24,7 @@ fn write(
         b'o' => calls::open_fresh(ns, wr, hd, part),
         b'O' => calls::open(b"opened", steps::at(ns, 1), steps::at(ns, 2), wr, hd, part),
         b'A' => calls::add(ns, wr, part, room),
+        b'B' => batch::add_list(ns, wr, part, room),
         b'c' => calls::close_laid(wr, part),
         b'C' => calls::close_by(wr, part),
         _ => shown::header(ns, hd),
@@ -93,7 +95,7 @@ fn act(
 ) {
     let name = s.name;
     match name {
-        b'o' | b'O' | b'A' | b'c' | b'C' | b'H' => write(name, ns, wr, hd, part, room),
+        b'o' | b'O' | b'A' | b'B' | b'c' | b'C' | b'H' => write(name, ns, wr, hd, part, room),
         b'v' | b'R' | b'W' | b'S' | b'L' => show(name, ns, part, room),
         b'P' | b'T' => choose(s, ns, rd, wr, hd),
         b'I' => shown::impossible(rd, wr),

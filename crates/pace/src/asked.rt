@@ -31,12 +31,12 @@ pub(crate) fn by_words() -> Asked {
     }
 }
 
-// The k-th of 28: writing, reading and checking, the four jobs, both modes; then the two jobs of closing alone.
+// The k-th of 34: writing, reading and checking, the four jobs, both modes; then the five jobs that are written alone.
 pub(crate) fn nth(k: u8) -> Asked {
     if 24 <= k {
         return Asked {
             what: b'w',
-            job: b'e' + k / 2 % 2,
+            job: b'e' + (k - 24) / 2 % 5,
             mode: 8 + k % 2,
             rounds: 2,
         };

@@ -1,6 +1,6 @@
 // Writes, checks and reads lines of system 0 in memory, for measuring: `pace WHAT JOB MODE ROUNDS`, WHAT being write, read or check. A
 // round is eight lines. Prints the CRC register after all words of the last eight lines, and a digest of what was read or checked;
-// bench/twin.c does the same jobs in C and prints the same. With no words each job is done twice. Jobs e and f close alone, and are written alone.
+// bench/twin.c does the same jobs in C and prints the same. With no words each job is done twice. Jobs e to i are written alone.
 mod jobs; // jobs.rt: what the jobs write
 mod writes; // writes.rt: eight lines written
 mod reads; // reads.rt: eight lines read or checked
@@ -44,10 +44,10 @@ fn rounds_of(a: Asked) -> u16 {
 }
 
 fn write_all(a: Asked, batch: &mut [u16]) {
-    let values = jobs::values_of(a.mode);
+    let words = jobs::lent_in(a.job, a.mode);
     let fresh = state::fresh_writer(0, a.mode);
     let n = jobs::count_of(a.job);
-    writes::write_rounds(fresh, a.job, rounds_of(a), &values[..n], batch);
+    writes::write_rounds(fresh, a.job, rounds_of(a), &words[..n], batch);
 }
 
 // A job done, and its row.
@@ -65,7 +65,7 @@ fn run(a: Asked, batch: &mut [u16; 13728], room: &mut [u16; 16384]) {
 // Every job, twice.
 fn run_all(batch: &mut [u16; 13728], room: &mut [u16; 16384]) {
     let mut k = 0u8;
-    while k < 28 {
+    while k < 34 {
         run(asked::nth(k), batch, room);
         k += 1;
     }

@@ -1,7 +1,8 @@
-// Eight lines written: each is opened, filled with blocks and closed. In jobs e and f only the first is opened and filled, once, and each is
+// Eight lines written: each is opened, filled with blocks, by single calls or in one list, and closed. In jobs e and f only the first is opened and filled, once, and each is
 // closed in the state that the first was in.
 use crate::jobs;
 use writer::adding;
+use writer::batch;
 use writer::closing;
 use writer::opening;
 use writer::state::Laid;
@@ -36,6 +37,15 @@ fn fill(w: Writer, job: u8, block: &[u16], line: &mut [u16]) -> Writer {
     now
 }
 
+// Blocks in one list, or one by one.
+fn filled(w: Writer, job: u8, block: &[u16], line: &mut [u16]) -> Writer {
+    if jobs::by_list(job) {
+        let told = batch::add_blocks(w, block, line);
+        return told.state;
+    }
+    fill(w, job, block, line)
+}
+
 // A line opened and filled; in jobs e and f the first alone.
 fn ready(kept: Kept, job: u8, block: &[u16], line: &mut [u16]) -> Writer {
     let w = kept.writer;
@@ -44,7 +54,7 @@ fn ready(kept: Kept, job: u8, block: &[u16], line: &mut [u16]) -> Writer {
         return w;
     }
     let opened = opening::open_line(w, false, false, kept.number, jobs::settings_of(job), line);
-    fill(opened.state, job, block, line)
+    filled(opened.state, job, block, line)
 }
 
 // The register whose two words are a line's last.

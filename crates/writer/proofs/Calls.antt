@@ -140,29 +140,35 @@ module _ {w : Writer} {line : List ℕ} {kind : ℕ} {vs : List ℕ} {p j rest k
         number = can .number;
       }
 
+  -- the words that are to lay now
+  enough : k ≤ length (drop j (wordsIn (w .settings .block) (w .mode) kind vs))
+  enough = omega (arith, f .now, f .left, length-drop j (wordsIn (w .settings .block) (w .mode) kind vs), words-long (w .settings .block) (w .mode) kind vs)
+
   -- the words that stand at the place are those laid, and the CRC is taken on over them
   laid-crc : (ys : List ℕ) (c : ℕ) → putMid a (a + k - a) line ys ≡ paste line a (drop j (wordsIn (w .settings .block) (w .mode) kind vs)) k
       → c ≡ crcOf (w .crc) (take (a + k - a) (drop a (putMid a (a + k - a) line ys))) → c ≡ crcOf (w .crc) (take k (drop j (wordsIn (w .settings .block) (w .mode) kind vs)))
   laid-crc ys c pasted hc =
       let ws = drop j (wordsIn (w .settings .block) (w .mode) kind vs) in
-      let enough : k ≤ length ws = omega (arith, f .now, f .left, length-drop j (wordsIn (w .settings .block) (w .mode) kind vs), words-long (w .settings .block) (w .mode) kind vs) in
       hc ∙ ap (crcOf (w .crc)) (ap (λ (l : List ℕ). take (a + k - a) (drop a l)) pasted ∙ piece-law line ws a a k (omega (arith, within)) enough)
+
+  pasted : (ys : List ℕ) → ys ≡ take (length (take (a + k - a) (drop a line))) (drop j (wordsIn (w .settings .block) (w .mode) kind vs))
+      → putMid a (a + k - a) line ys ≡ paste line a (drop j (wordsIn (w .settings .block) (w .mode) kind vs)) k
+  pasted ys hy = mid-paste line (drop j (wordsIn (w .settings .block) (w .mode) kind vs)) ys a k within hy
 
   add-done : (ys : List ℕ) (after : Rest) (c : ℕ) (answer : Laid) (st : Writer)
       → ys ≡ take (length (take (a + k - a) (drop a line))) (drop j (wordsIn (w .settings .block) (w .mode) kind vs))
-      → after ≡ pick (eqb k rest) NoBlock (Part kind (length vs) (j + k)) → c ≡ crcOf (w .crc) (take (a + k - a) (drop a (putMid a (a + k - a) line ys)))
+      → after ≡ pick (eqb k rest) NoBlock (Part kind (length vs) (j + k)) → c ≡ crcOf (w .crc) (take k (drop j (wordsIn (w .settings .block) (w .mode) kind vs)))
       → answer ≡ pick (eqb k rest) Finished Unfinished
       → st ≡ moved w (At (p + k)) after c → added answer st (putMid a (a + k - a) line ys) ≡ adding w line kind vs
   unfolding adding
-  add-done ys after c answer st hy hr hc ht hs =
+  add-done ys after c answer st hy hr taken ht hs =
       let ws = todo w kind vs in
       let q = placeOf (w .place) in
       let i = laidOf (w .rest) in
       let g = leaves w line kind vs in
       let some : k ≡ fitting w ws = f .now ∙ ap₂ (λ (x y : ℕ). min (endIn w - x) y) (f .place) rest-is in
-      let pasted = mid-paste line (drop j (wordsIn (w .settings .block) (w .mode) kind vs)) ys a k within hy in
-      let taken = laid-crc ys c pasted hc in
-      let first : added answer st (putMid a (a + k - a) line ys) ≡ g p j rest k a = rw (hs, ht, hr, taken, pasted) in
+      let there = pasted ys hy in
+      let first : added answer st (putMid a (a + k - a) line ys) ≡ g p j rest k a = rw (hs, ht, hr, taken, there) in
       first
       ∙ ap (λ (x : ℕ). g x j rest k a) (f .place)
       ∙ ap (λ (x : ℕ). g q x rest k a) (f .laid)
@@ -172,15 +178,35 @@ module _ {w : Writer} {line : List ℕ} {kind : ℕ} {vs : List ℕ} {p j rest k
       ∙ sym (pick-true _ _ (eq-eqb _ _ (f .clear)))
 
 -- ---- adding in a variable line
-pub part-done : {w : Writer} {line : List ℕ} {kind : ℕ} {vs : List ℕ} {p j rest k a : ℕ} → Found w line kind vs p j rest k a
+-- the words laid, and the CRC over them
+part-by : {w : Writer} {line : List ℕ} {kind : ℕ} {vs : List ℕ} {p j rest k a : ℕ} → Found w line kind vs p j rest k a
     → isVariable (w .settings .block) ≡ true → (ys : List ℕ) (after : Rest) (c : ℕ) (answer : Laid) (st : Writer)
     → ys ≡ take (length (take (a + k - a) (drop a line))) (drop j (blockWords (w .mode) kind vs))
-    → after ≡ pick (eqb k rest) NoBlock (Part kind (length vs) (j + k)) → c ≡ crcOf (w .crc) (take (a + k - a) (drop a (putMid a (a + k - a) line ys)))
+    → after ≡ pick (eqb k rest) NoBlock (Part kind (length vs) (j + k)) → c ≡ crcOf (w .crc) ys
     → answer ≡ pick (eqb k rest) Finished Unfinished → st ≡ moved w (At (p + k)) after c
     → added answer st (putMid a (a + k - a) line ys) ≡ adding w line kind vs
-part-done {w} {line} {kind} {vs} {p} {j} {rest} {k} {a} f v ys after c answer st e =
-    add-done f ys after c answer st
-    (e ∙ ap (λ (l : List ℕ). take (length (take (a + k - a) (drop a line))) (drop j l)) (sym (words-variable (w .settings .block) (w .mode) kind vs v)))
+part-by {w} {line} {kind} {vs} {p} {j} {rest} {k} {a} f v ys after c answer st e hr hc =
+    let words : ys ≡ take (length (take (a + k - a) (drop a line))) (drop j (wordsIn (w .settings .block) (w .mode) kind vs)) =
+    e ∙ ap (λ (l : List ℕ). take (length (take (a + k - a) (drop a line))) (drop j l)) (sym (words-variable (w .settings .block) (w .mode) kind vs v)) in
+    add-done f ys after c answer st words hr
+    (hc ∙ ap (crcOf (w .crc)) (words ∙ ap (λ (n : ℕ). take n (drop j (wordsIn (w .settings .block) (w .mode) kind vs))) (part-whole line a k (sizes f .within))))
+
+-- all that is left of the block
+pub part-whole-done : {w : Writer} {line : List ℕ} {kind : ℕ} {vs : List ℕ} {p j k a : ℕ} → Found w line kind vs p j k k a → isVariable (w .settings .block) ≡ true
+    → (ys : List ℕ) (c : ℕ) → ys ≡ take (length (take (a + k - a) (drop a line))) (drop j (blockWords (w .mode) kind vs)) → c ≡ crcOf (w .crc) ys
+    → added Finished (moved w (At (p + k)) NoBlock c) (putMid a (a + k - a) line ys) ≡ adding w line kind vs
+part-whole-done {w} {line} {kind} {vs} {p} {j} {k} {a} f v ys c e hc =
+    let all = eq-eqb k k refl in
+    part-by f v ys NoBlock c Finished _ e (sym (pick-true NoBlock (Part kind (length vs) (j + k)) all)) hc (sym (pick-true Finished Unfinished all)) refl
+
+-- and where the line is full before
+pub part-cut-done : {w : Writer} {line : List ℕ} {kind : ℕ} {vs : List ℕ} {p j rest k a : ℕ} → Found w line kind vs p j rest k a → isVariable (w .settings .block) ≡ true
+    → k < rest → (ys : List ℕ) (c : ℕ) → ys ≡ take (length (take (a + k - a) (drop a line))) (drop j (blockWords (w .mode) kind vs)) → c ≡ crcOf (w .crc) ys
+    → added Unfinished (moved w (At (p + k)) (Part kind (length vs) (j + k)) c) (putMid a (a + k - a) line ys) ≡ adding w line kind vs
+part-cut-done {w} {line} {kind} {vs} {p} {j} {rest} {k} {a} f v less ys c e hc =
+    let some = ne-eqb k rest (λ z. omega (arith, less, z)) in
+    part-by f v ys (Part kind (length vs) (j + k)) c Unfinished _ e (sym (pick-false NoBlock (Part kind (length vs) (j + k)) some)) hc
+    (sym (pick-false Finished Unfinished some)) refl
 
 -- ---- adding in a fixed line: all words of the block are laid now
 pub place-found : (w : Writer) (line : List ℕ) (kind : ℕ) (vs : List ℕ) → addFault w (length line) kind vs ≡ 0 → isVariable (w .settings .block) ≡ false
@@ -206,6 +232,6 @@ place-done {w} {line} {kind} {vs} {p} {a} f v ys c st e hc hs =
     let long = fixed-long (w .mode) kind vs in
     let k = length (take (a + (length vs + 1) - a) (drop a line)) in
     let whole = eq-eqb (length vs + 1) (length vs + 1) refl in
-    add-done f ys NoBlock c Finished st
-    (e ∙ sym (take-all k (fixedWords (w .mode) kind vs) (omega (arith, many, long))) ∙ ap (take k) (sym all))
-    (sym (pick-true NoBlock (Part kind (length vs) (0 + (length vs + 1))) whole)) hc (sym (pick-true Finished Unfinished whole)) hs
+    let words = e ∙ sym (take-all k (fixedWords (w .mode) kind vs) (omega (arith, many, long))) ∙ ap (take k) (sym all) in
+    add-done f ys NoBlock c Finished st words
+    (sym (pick-true NoBlock (Part kind (length vs) (0 + (length vs + 1))) whole)) (laid-crc f ys c (pasted f ys words) hc) (sym (pick-true Finished Unfinished whole)) hs

@@ -4,6 +4,7 @@ pub mod BlockLaws
 pub mod Frame
 pub mod Refusals
 pub mod Calls
+pub mod GroundLaws
 pub mod Keeps
 pub mod Framing
 pub mod Legal
@@ -12,5 +13,6 @@ pub mod Stays
 pub mod Pieces
 pub mod AnswerLaws
 pub mod NumberLaws
+pub mod BatchLaws
 pub mod Samples
 pub mod PlaceLaws

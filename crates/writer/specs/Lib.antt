@@ -6,3 +6,5 @@ pub mod Adding
 pub mod Numbers
 pub mod Closing
 pub mod Filling
+pub mod Batch
+pub mod Ground

@@ -10,20 +10,49 @@ use line::systems;
 use words::crc;
 ghost use mathlib.Core.Path.{_≡_};
 ghost use mathlib.Core.Bool.{true, false};
-ghost use Prim.Native.Nat.{_+_, _≤_, _<_};
-ghost use lib.Dec.{eqb, ltb};
+ghost use lib.Dec.{ltb};
 ghost use lib.ListN.{length};
-ghost use Rattle.lists.specs.Tests.{pick};
+ghost use Rattle.lists.specs.Tests.{lowestOf};
 ghost use Rattle.lists.specs.Lists.{each};
 ghost use Rattle.line.specs.Fixed.{isVariable, sizeOf};
 ghost use Rattle.writer.specs.Answers.{laidNumbers, added};
 ghost use Rattle.writer.specs.Numbers.{allFits, laidBy};
 ghost use Rattle.writer.specs.Adding.{valued, illShaped, isFull, isOther, addFault, adding};
+ghost use Rattle.writer.specs.Batch.{batchFault};
+ghost use Rattle.writer.specs.Ground.{heldBy, Grounds, Standing, blockFaults, IsStep};
 
 // What adding leaves beside the line.
 pub struct Addition {
     pub answer: Laid,
     pub state: Writer,
+}
+
+// What an addition asks of its line: the mode, the block type, the size of a fixed block, where blocks end, and where the payload starts.
+pub struct Ground {
+    pub mode: u8,
+    pub block: u8,
+    pub size: u16,
+    pub end: usize,
+    pub start: usize,
+}
+
+// What an addition moves of the state.
+pub struct Held {
+    pub place: Place,
+    pub rest: Rest,
+    pub crc: u32,
+}
+
+// What one addition answers, and what is held then.
+pub struct Step {
+    pub answer: Laid,
+    pub held: Held,
+}
+
+// 1 or 2, or 0; and what the additions ask of the line.
+pub struct Asked {
+    pub fault: u8,
+    pub ground: Ground,
 }
 
 // Each value is one of the mode's.
@@ -83,99 +112,144 @@ fn is_other(rest: Rest, kind: u16, n: usize) -> bool
     }
 }
 
-// The lowest number whose condition holds, or 0. Each test leaves, because a block of a fixed line has few words.
-fn add_fault(w: Writer, long: usize, kind: u16, values: &[u16]) -> u8
-    ensures { λ r. ⌜ r ≡ addFault w long kind (now (values .entry)) ⌝ }
+// What is asked once a call, however many blocks are lent: 1, 2, and what the table of fixed blocks says of the line.
+pub(crate) fn ask(w: Writer, long: usize) -> Asked
+    ensures { λ r. ⌜ (r .fault ≡ batchFault w long) × Grounds w (r .ground) ⌝ }
 {
     let last = w.last;
     let settings = w.settings;
     let place = w.place;
     let rest = w.rest;
-    let n = values.len();
-    if !check::is_fit(w.system, w.mode, long) {
-        return 1;
-    }
+    let s = systems::system_of(w.system);
+    let start = lists::minus_or_zero(s.length, s.payload);
     let x = course::look(w.system, last, settings, place, state::is_part(rest));
-    if x.impossible | state::is_misheld(rest, w.crc) {
-        return 2;
+    let r2 = lists::or_else(x.impossible | state::is_misheld(rest, w.crc), 2, 0);
+    Asked {
+        fault: lists::or_else(!check::is_fit(w.system, w.mode, long), 1, r2),
+        ground: Ground {
+            mode: w.mode,
+            block: settings.block,
+            size: x.size,
+            end: x.end,
+            start: start,
+        },
     }
-    if !is_valued(w.mode, values) {
+}
+
+// What the state has of it.
+pub(crate) fn held_in(w: Writer) -> Held
+    ensures { λ r. ⌜ heldBy w r ≡ w ⌝ }
+{
+    let place = w.place;
+    let rest = w.rest;
+    Held {
+        place: place,
+        rest: rest,
+        crc: w.crc,
+    }
+}
+
+// The state with it.
+pub(crate) fn state_with(w: Writer, h: Held) -> Writer
+    ensures { λ r. ⌜ r ≡ heldBy w h ⌝ }
+{
+    let place = h.place;
+    let rest = h.rest;
+    state::moved(w, place, rest, h.crc)
+}
+
+// 17 to 20: the lowest number whose condition holds, or 0. Each test leaves, because a block of a fixed line has few words.
+pub(crate) fn block_fault(g: Ground, h: Held, kind: u16, values: &[u16]) -> u8
+    requires { ⌜ g .size ≡ sizeOf (g .block) ⌝ }
+    ensures { λ r. ⌜ r ≡ lowestOf (blockFaults g h kind (now (values .entry))) ⌝ }
+{
+    let place = h.place;
+    let rest = h.rest;
+    let n = values.len();
+    if !is_valued(g.mode, values) {
         return 17;
     }
-    if is_ill_shaped(place, settings.block, x.size, kind, n) {
+    if is_ill_shaped(place, g.block, g.size, kind, n) {
         return 18;
     }
-    if is_full(x.end, place) {
+    if is_full(g.end, place) {
         return 19;
     }
     lists::or_else(!course::is_at(place) | is_other(rest, kind, n), 20, 0)
 }
 
-// What is unfinished after k of the left words.
-fn rest_after(left: usize, k: usize, kind: u16, n: usize, laid: usize) -> Rest
-    requires { ⌜ (kind < 256) × (n ≤ 16384) × (laid + k < 65536) ⌝ }
-    ensures { λ r. ⌜ r ≡ pick (eqb k left) Rest.NoBlock (Rest.Part kind n (laid + k)) ⌝ }
-{
-    if k == left {
-        return Rest::NoBlock;
-    }
-    Rest::Part {
-        kind: kind as u8,
-        count: n as u16,
-        laid: (laid + k) as u16,
-    }
-}
-
-// Finished where all the left words were laid.
-fn told(left: usize, k: usize) -> Laid
-    ensures { λ r. ⌜ r ≡ pick (eqb k left) Laid.Finished Laid.Unfinished ⌝ }
-{
-    if k == left {
-        Laid::Finished
-    } else {
-        Laid::Unfinished
-    }
-}
-
 // The block in a place of a fixed line: all of it fits, because places stand one after another.
-fn lay_place(w: Writer, kind: u16, values: &[u16], line: &mut [u16]) -> Addition
-    requires { ⌜ (addFault w (length (now line)) kind (now values) ≡ 0) × (isVariable (w .settings .block) ≡ false) ⌝ }
-    ensures { λ r. ⌜ added (r .answer) (r .state) (now (line .exit)) ≡ adding w (now (line .entry)) kind (now (values .entry)) ⌝ }
+pub(crate) fn lay_place(g: Ground, h: Held, kind: u16, values: &[u16], line: &mut [u16]) -> Step
+    requires { ⌜ Standing g h (length (now line)) × (lowestOf (blockFaults g h kind (now values)) ≡ 0) × (isVariable (g .block) ≡ false) ⌝ }
+    ensures { λ r. ⌜ IsStep g h (now (line .entry)) kind (now (values .entry)) r (now (line .exit)) ⌝ }
 {
-    let s = systems::system_of(w.system);
-    let at = w.place;
+    let at = h.place;
     let place = course::place_of(at);
     let k = values.len() + 1;
-    let a = s.length - s.payload + place;
+    let a = g.start + place;
     let e = a + k;
-    block::lay_fixed(w.mode, kind, values, &mut line[a..e]);
-    let c = crc::crc_of(w.crc, &line[a..e]);
-    Addition {
+    block::lay_fixed(g.mode, kind, values, &mut line[a..e]);
+    let c = crc::crc_of(h.crc, &line[a..e]);
+    Step {
         answer: Laid::Finished,
-        state: state::moved(w, Place::At(place + k), Rest::NoBlock, c),
+        held: Held {
+            place: Place::At(place + k),
+            rest: Rest::NoBlock,
+            crc: c,
+        },
     }
 }
 
-// As much of a variable block as fits: it has n+7 words.
-fn lay_part(w: Writer, kind: u16, values: &[u16], line: &mut [u16]) -> Addition
-    requires { ⌜ (addFault w (length (now line)) kind (now values) ≡ 0) × (isVariable (w .settings .block) ≡ true) ⌝ }
-    ensures { λ r. ⌜ added (r .answer) (r .state) (now (line .exit)) ≡ adding w (now (line .entry)) kind (now (values .entry)) ⌝ }
+// A variable block, which has n+7 words: all that is left of it, or as much as fits.
+pub(crate) fn lay_part(g: Ground, h: Held, kind: u16, values: &[u16], line: &mut [u16]) -> Step
+    requires { ⌜ Standing g h (length (now line)) × (lowestOf (blockFaults g h kind (now values)) ≡ 0) × (isVariable (g .block) ≡ true) ⌝ }
+    ensures { λ r. ⌜ IsStep g h (now (line .entry)) kind (now (values .entry)) r (now (line .exit)) ⌝ }
 {
-    let s = systems::system_of(w.system);
-    let at = w.place;
-    let rest = w.rest;
+    let at = h.place;
+    let rest = h.rest;
     let place = course::place_of(at);
     let laid = state::laid_of(rest);
-    let left = values.len() + 7 - laid;
-    let k = lists::smaller_of(state::end_in(w) - place, left);
-    let a = s.length - s.payload + place;
-    let e = a + k;
-    block::lay_words(w.mode, kind, values, laid, &mut line[a..e]);
-    let c = crc::crc_of(w.crc, &line[a..e]);
-    let after = rest_after(left, k, kind, values.len(), laid);
+    let n = values.len();
+    let left = n + 7 - laid;
+    let room = g.end - place;
+    let a = g.start + place;
+    if left <= room {
+        let e = a + left;
+        let c = block::lay_on(g.mode, kind, values, laid, h.crc, &mut line[a..e]);
+        return Step {
+            answer: Laid::Finished,
+            held: Held {
+                place: Place::At(place + left),
+                rest: Rest::NoBlock,
+                crc: c,
+            },
+        };
+    }
+    let e = a + room;
+    let c = block::lay_on(g.mode, kind, values, laid, h.crc, &mut line[a..e]);
+    Step {
+        answer: Laid::Unfinished,
+        held: Held {
+            place: Place::At(place + room),
+            rest: Rest::Part {
+                kind: kind as u8,
+                count: n as u16,
+                laid: (laid + room) as u16,
+            },
+            crc: c,
+        },
+    }
+}
+
+// What was done, as a single call leaves it.
+fn told(w: Writer, s: Step) -> Addition
+    ensures { λ r. ⌜ (r .answer ≡ s .answer) × (r .state ≡ heldBy w (s .held)) ⌝ }
+{
+    let answer = s.answer;
+    let h = s.held;
     Addition {
-        answer: told(left, k),
-        state: state::moved(w, Place::At(place + k), after, c),
+        answer: answer,
+        state: state_with(w, h),
     }
 }
 
@@ -184,15 +258,25 @@ pub fn add_block(w: Writer, kind: u16, values: &[u16], line: &mut [u16]) -> Addi
     ensures { λ r. ⌜ (added (r .answer) (r .state) (now (line .exit)) ≡ adding w (now (line .entry)) kind (now (values .entry)))
         × (laidNumbers (r .answer) ≡ laidBy (addFault w (length (now (line .entry))) kind (now (values .entry))) (allFits w kind (now (values .entry)))) ⌝ }
 {
-    let fault = add_fault(w, line.len(), kind, values);
+    let x = ask(w, line.len());
+    let early = x.fault;
+    if early != 0 {
+        return Addition {
+            answer: Laid::Refused(early),
+            state: w,
+        };
+    }
+    let g = x.ground;
+    let h = held_in(w);
+    let fault = block_fault(g, h, kind, values);
     if fault != 0 {
         return Addition {
             answer: Laid::Refused(fault),
             state: w,
         };
     }
-    if line::fixed::is_variable(w.settings.block) {
-        return lay_part(w, kind, values, line);
+    if line::fixed::is_variable(g.block) {
+        return told(w, lay_part(g, h, kind, values, line));
     }
-    lay_place(w, kind, values, line)
+    told(w, lay_place(g, h, kind, values, line))
 }

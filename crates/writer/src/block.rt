@@ -1,10 +1,12 @@
 // The words of a block, laid into a lent part: of a variable block, which is six words, the values and one word more, from any of them on;
 // of a fixed block, which is one word and the values, all.
 use crate::fill;
+use words::crc;
 ghost use mathlib.Core.Path.{_≡_};
 ghost use mathlib.Core.List.{[], _∷_, _++_, map};
 ghost use Prim.Native.Nat.{_+_, _/_, _%_, _≤_};
 ghost use lib.ListN.{length, take, drop};
+ghost use Rattle.words.specs.Crc.{crcOf};
 ghost use Rattle.words.specs.Forms.{byteWord};
 ghost use Rattle.words.specs.Modes.{wordOf};
 ghost use Rattle.words.specs.Class.{separator, endCode};
@@ -46,13 +48,23 @@ fn lay_rest(mode: u8, values: &[u16], j: usize, out: &mut [u16])
 }
 
 // A variable block's words from word j, as many as there is room for.
-pub(crate) fn lay_words(mode: u8, kind: u16, values: &[u16], j: usize, out: &mut [u16])
+fn lay_words(mode: u8, kind: u16, values: &[u16], j: usize, out: &mut [u16])
     requires { ⌜ j + length (now out) ≤ length (now values) + 7 ⌝ }
     ensures { λ _. ⌜ now (out .exit) ≡ take (length (now (out .entry))) (drop j (blockWords mode kind (now (values .entry)))) ⌝ }
 {
     let a = lists::smaller_of(out.len(), lists::minus_or_zero(6, j));
     lay_head(kind, values.len(), lists::smaller_of(j, 6), &mut out[..a]);
     lay_rest(mode, values, lists::minus_or_zero(j, 6), &mut out[a..]);
+}
+
+// The same, and the CRC taken on over them.
+pub(crate) fn lay_on(mode: u8, kind: u16, values: &[u16], j: usize, c: u32, out: &mut [u16]) -> u32
+    requires { ⌜ j + length (now out) ≤ length (now values) + 7 ⌝ }
+    ensures { λ r. ⌜ (now (out .exit) ≡ take (length (now (out .entry))) (drop j (blockWords mode kind (now (values .entry)))))
+        × (r ≡ crcOf c (now (out .exit))) ⌝ }
+{
+    lay_words(mode, kind, values, j, out);
+    crc::crc_of(c, out)
 }
 
 // A place of a fixed line: the type word and the values.

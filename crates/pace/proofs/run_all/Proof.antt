@@ -6,10 +6,10 @@ use Rattle.pace.proofs.run_all.Statement.{statement}
 use Rattle.pace.proofs.run_all.Tie as tie
 
 abbrev Inv-loop : tie.InvT-loop
-Inv-loop batch₀ room₀ k₀ batch room k = k ≤ 28
+Inv-loop batch₀ room₀ k₀ batch room k = k ≤ 34
 
 abbrev μ-loop : tie.MeasureT-loop
-μ-loop batch₀ room₀ k₀ batch room k = 28 - k
+μ-loop batch₀ room₀ k₀ batch room k = 34 - k
 
 pub run-all-spec : {M : Type 1} → statement M
 run-all-spec =
