@@ -1,9 +1,10 @@
-// The jobs of the program `pace`, written by hand in C: lines of system 0 written, checked and read in memory.
-//   twin WHAT JOB MODE ROUNDS     WHAT: write, read, check; JOB: a to i; MODE: 8, 9
+// The jobs of the programs `pace` and `slices`, written by hand in C: lines of system 0 written, checked and read in memory.
+//   twin WHAT JOB MODE ROUNDS     WHAT: write, read, slice (read in slices of 64 words), check, lines (the lines themselves are printed);
+//                                 JOB: a to i; MODE: 8, 9
 // Jobs: a variable blocks of 10,000 values, flag 01h; b of 100 values; c fixed blocks 21h, flag 00h; d filler lines, flag 01h;
 // with WHAT write alone: e, f a filler line, or a line full of a's blocks, closed again and again; g c's blocks, those of a line in one list;
 // h variable blocks of 4 values, flag 01h; i the same in one list.
-// A round is eight lines. What is printed is a digest, which `pace` has to print too.
+// A round is eight lines. What is printed is a digest, which `pace` or `slices` has to print too.
 #include <stdint.h>
 #include <stdio.h>
 #include <stdlib.h>
@@ -402,7 +403,7 @@ static int check(unsigned system, int mode, const uint16_t *line, size_t length,
 
 // ---- reading
 enum { IDLE, TYPE, COUNT, DATA };
-enum { BEGUN = 3, ENDED = 4 }; // events beside 1, a block, and 2, a drop
+enum { BEGUN = 3, ENDED = 4, PAUSED = 5 }; // events beside 1, a block, and 2, a drop
 
 typedef struct {
     unsigned system, last, place, phase, kind, bytes, count, got;
@@ -454,10 +455,10 @@ static void copy_values(int mode, const uint16_t *w, size_t n, uint16_t *out) {
         out[i] = w[i] & mask;
 }
 
-// On from the place to the next event, or to the line's end.
-static int go_on(Reader *r, const uint16_t *line, uint16_t *room) {
+// On from the place to the next event, or to before place end: then the place is there.
+static int go_on(Reader *r, const uint16_t *line, size_t end, uint16_t *room) {
     const uint16_t *w = line + START;
-    size_t end = area_of(&r->settings), i = r->place;
+    size_t i = r->place;
     while (i < end) {
         if (r->phase == IDLE || r->phase == DATA) {
             size_t stop = end, from = i;
@@ -478,11 +479,11 @@ static int go_on(Reader *r, const uint16_t *line, uint16_t *room) {
             return event;
         }
     }
+    r->place = i;
     return ENDED;
 }
 
-static int next_place(Reader *r, const uint16_t *line, uint16_t *room) {
-    size_t size = FIXED[r->settings.block & 63].size, end = end_of(&r->settings);
+static int next_place(Reader *r, const uint16_t *line, size_t size, size_t end, uint16_t *room) {
     while (r->place < end) {
         const uint16_t *w = line + START + r->place;
         r->place += size;
@@ -507,29 +508,63 @@ static void begin(Reader *r, unsigned number, const Settings *s) {
     r->place = 0;
 }
 
+// 1 and 2, or 0.
+static int read_fault(const Reader *r, size_t length, size_t words) {
+    if (unfit(r->system, r->mode, length) || words != ROOM)
+        return 1;
+    int wrong_count = r->phase == COUNT ? r->bytes > 3 : r->phase == DATA && (r->count > ROOM || r->got > ROOM || (r->count && r->got > r->count));
+    return wrong_count || !possible(r->last, &r->settings, r->place, r->phase != IDLE) ? 2 : 0;
+}
+
+// A line begun or refused.
+static int start(Reader *r, const uint16_t *line, size_t length) {
+    unsigned number;
+    Settings s;
+    int fault = check(r->system, r->mode, line, length, &number, &s);
+    if (fault) {
+        r->phase = IDLE;
+        r->last = 0;
+        return -fault;
+    }
+    begin(r, number, &s);
+    return BEGUN;
+}
+
 // A reading call: below 0 a refusal, else an event.
 static int read_call(Reader *r, const uint16_t *line, size_t length, uint16_t *room, size_t words) {
-    if (unfit(r->system, r->mode, length) || words != ROOM)
-        return -1;
-    int wrong_count = r->phase == COUNT ? r->bytes > 3 : r->phase == DATA && (r->count > ROOM || r->got > ROOM || (r->count && r->got > r->count));
-    if (wrong_count || !possible(r->last, &r->settings, r->place, r->phase != IDLE))
-        return -2;
-    if (r->place == NONE) {
-        unsigned number;
-        Settings s;
-        int fault = check(r->system, r->mode, line, length, &number, &s);
-        if (fault) {
-            r->phase = IDLE;
-            r->last = 0;
-            return -fault;
-        }
-        begin(r, number, &s);
-        return BEGUN;
-    }
-    int event = r->settings.block == VARIABLE ? go_on(r, line, room) : next_place(r, line, room);
+    int fault = read_fault(r, length, words);
+    if (fault)
+        return -fault;
+    if (r->place == NONE)
+        return start(r, line, length);
+    int event = r->settings.block == VARIABLE ? go_on(r, line, area_of(&r->settings), room)
+                                              : next_place(r, line, FIXED[r->settings.block & 63].size, end_of(&r->settings), room);
     if (event == ENDED)
         r->place = NONE;
     return event;
+}
+
+// The same under an allowance: how many words (fixed: places) were consumed.
+static int read_within(Reader *r, size_t allowance, const uint16_t *line, size_t length, uint16_t *room, size_t words, size_t *consumed) {
+    *consumed = 0;
+    int fault = read_fault(r, length, words);
+    if (fault)
+        return -fault;
+    if (allowance == 0)
+        return PAUSED;
+    if (r->place == NONE)
+        return start(r, line, length);
+    int variable = r->settings.block == VARIABLE;
+    size_t unit = variable ? 1 : FIXED[r->settings.block & 63].size, q = r->place;
+    size_t far = q + min(allowance, (end_of(&r->settings) - q) / unit) * unit;
+    int event = variable ? go_on(r, line, far, room) : next_place(r, line, unit, far, room);
+    *consumed = (r->place - q) / unit;
+    if (event != ENDED)
+        return event;
+    if (*consumed == allowance)
+        return PAUSED;
+    r->place = NONE;
+    return ENDED;
 }
 
 // ---- the jobs
@@ -586,6 +621,21 @@ static uint32_t read_round(int mode, uint32_t digest) {
     return digest;
 }
 
+// Slices of 64: each report goes into the digest, with what was consumed and the room's first word.
+static uint32_t slice_round(int mode, uint32_t digest) {
+    Reader r = {.place = NONE, .mode = mode};
+    for (int k = 0; k < BATCH; k++) {
+        uint32_t number = 2;
+        while (number > 1) {
+            size_t consumed;
+            int event = read_within(&r, 64, lines[k], LENGTH, room, ROOM, &consumed);
+            number = event < 0 ? 1 : event == 1 ? 65536 + r.got : event == 2 ? 3 : event == BEGUN ? 2 : event == PAUSED ? 4 : 0;
+            digest = digest * 31 + number + (uint32_t)consumed + room[0];
+        }
+    }
+    return digest;
+}
+
 static uint32_t check_round(int mode, uint32_t digest) {
     for (int k = 0; k < BATCH; k++) {
         unsigned number = 0;
@@ -616,8 +666,10 @@ int main(int argc, char **argv) {
         close_rounds(&w, &s, job, writes);
     for (long i = 0; !closing && i < writes; i++)
         write_round(&w, &s, job);
-    for (long i = 0; what != 'w' && i < rounds; i++)
-        digest = what == 'r' ? read_round(mode, digest) : check_round(mode, digest);
+    for (long i = 0; what != 'w' && what != 'l' && i < rounds; i++)
+        digest = what == 'r' ? read_round(mode, digest) : what == 's' ? slice_round(mode, digest) : check_round(mode, digest);
+    if (what == 'l')
+        return fwrite(lines, sizeof lines, 1, stdout) != 1;
     printf("%u %u\n", crc_of(lines[0], BATCH * LENGTH), digest);
     return 0;
 }

@@ -4,6 +4,7 @@ import sys
 
 import kinds
 import lists
+from allowance import read_within, seen_of
 from answers import answer
 from reader import IDLE, Reader, said
 from states import BUFFER, COUNT, HEADING, READER, SETTINGS, WRITER, of_phase, to_numbers, to_reader, to_writer
@@ -11,7 +12,7 @@ from words import VARIABLE, by_perl, by_python, byte_form, checksum, crc_of, crc
 from writer import DONE, Writer
 
 STEPS = {"new", "open", "close", "words", "index", "data", "mix", "read", "view", "last", "at", "phase", "settings"}
-STEPS |= {"Put", "Tell", "Impossible", "Make", "Room", "Open", "Add", "Close", "Words", "Sum", "Header", "Line", "Batch"}
+STEPS |= {"Put", "Tell", "Impossible", "Make", "Room", "Open", "Add", "Close", "Words", "Sum", "Header", "Line", "Batch", "under"}
 
 
 class Register:
@@ -211,6 +212,23 @@ class Play:
             self.count(reader, event)
             if event[0] in ("refused", "end"):
                 break
+        self.states[READER] = to_numbers(reader)
+        self.rows.append(row + state_text(reader))
+
+    def under(self, times, length, room, allowance, below):
+        allowance = 2**64 - 1 - allowance if below else allowance
+        row, reader = ["under"], to_reader(self.scope, self.states[READER])
+        for _ in range(times):
+            lent, before = self.room[:room], reader.place is not None
+            event, consumed = read_within(reader, allowance, self.line[:length], lent)
+            self.room[:room] = lent
+            self.seen.update(seen_of(reader, before, allowance, event, consumed))
+            row += ["paused"] if event is None else [said(event), Register(lent[: event[2]])] if event[0] == "block" else [said(event)]
+            row.append(consumed)
+            if event is not None:
+                self.count(reader, event)
+                if event[0] in ("refused", "end"):
+                    break
         self.states[READER] = to_numbers(reader)
         self.rows.append(row + state_text(reader))
 

@@ -12,6 +12,7 @@ import lists
 import put
 import reserved
 import running
+import under
 from book import ROOM, SOURCE, TO, Book, whole
 from words import VARIABLE, Scope, block_head, byte_form, checksum, crc_of, data_form, header, opened_line, settings_by
 
@@ -300,7 +301,7 @@ def script(scope):
     for part in drops, long_blocks, phases, mixes, fixed, fixed_later, jumps, refusals, unfit, impossible:
         part(book)
     # A new part stands behind all others, so that the steps and rows there are stay as they are.
-    for part in lines.PARTS + courses.PARTS + put.PARTS + edges.PARTS + reserved.PARTS + bursts.PARTS + running.PARTS + lists.PARTS:
+    for part in lines.PARTS + courses.PARTS + put.PARTS + edges.PARTS + reserved.PARTS + bursts.PARTS + running.PARTS + lists.PARTS + under.PARTS:
         part(book)
     return "".join(f"{step}\n" for step in book.steps)
 

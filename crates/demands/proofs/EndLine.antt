@@ -26,13 +26,14 @@ use Rattle.writer.specs.Filling.{joined, areaFrom}
 use Rattle.machine.specs.declared.phase.Phase.{Phase}
 use Rattle.machine.specs.declared.phase.Phase.the-variants.{Idle}
 use Rattle.machine.specs.Places.{placesIn}
+use Rattle.machine.proofs.Cut.{front-places}
 use Rattle.demands.specs.Sending.{Desk, closedBy}
 use Rattle.demands.specs.Hearing.{Heard}
 use Rattle.demands.specs.Damage.{allOn, survivors}
 use Rattle.demands.proofs.Run.{Now, now, idle, runTo, runOut, placesTo, placesOut}
 use Rattle.demands.proofs.RunLaws.{run-to-append, run-out-append}
 use Rattle.demands.proofs.BlockRun.{filler-out, filler-to}
-use Rattle.demands.proofs.PlaceRun.{empties, places-out-append, places-to-append, places-empty, places-stay, places-of, places-cut}
+use Rattle.demands.proofs.PlaceRun.{empties, places-out-append, places-to-append, places-empty, places-stay, places-of}
 use Rattle.demands.proofs.LineRun.{leftOut, leftTo, blockPart, areaOut, areaTo}
 use Rattle.demands.proofs.Ear.{Ear, own, refusal, inputBy, inputOf}
 use Rattle.demands.proofs.DeskOk.{OpenNow, DeskOk}
@@ -172,7 +173,7 @@ module _ (system mode cap : ℕ) (keeps : ℕ → Bool) (d : Desk) (dk : DeskOk 
     places-are =
         let all : length (d .now .pieces) + empty ≡ places = omega (arith, c .within v) in
         ap (placesIn size places) fixed-words
-        ∙ places-cut size places area
+        ∙ front-places size places (places * size) area (omega arith)
         ∙ places-of size empty places (d .now .pieces) (o .placed v) all (areaLength payload (t .flag) - length (joined (d .now .pieces))) fits-behind
 
     places-heard : placesOut mode (q .room) (placesIn size places (blockPart system (d .now .settings) line)) ≡ blocksHeard (survivors keeps (d .now .blocks))

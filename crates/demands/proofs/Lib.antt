@@ -9,6 +9,9 @@ pub mod Ear
 pub mod LineLends
 pub mod LineEnds
 pub mod EarReads
+pub mod WithinCalls
+pub mod WithinCourses
+pub mod Longest
 pub mod DeskOk
 pub mod Outcomes
 pub mod DeskCalls
@@ -40,6 +43,7 @@ pub mod FrameNeeded
 pub mod AsLent
 pub mod Demand3Holds
 pub mod BatchesHold
+pub mod AllowedHolds
 pub mod PCases
 pub mod DemandSamples
 pub mod NumberSamples
@@ -47,4 +51,5 @@ pub mod Demand1Cited
 pub mod Reserved
 pub mod DemandCited
 pub mod BatchesCited
+pub mod AllowedCited
 pub mod AreaAnswers

@@ -27,15 +27,15 @@ use Rattle.reader.specs.declared.state.Reader.{Reader}
 use Rattle.reader.specs.declared.state.Event.the-variants.{Refused}
 use Rattle.machine.specs.Walk.{Walk, isNothing, walkOf}
 use Rattle.machine.specs.Places.{placesIn, walkPlaces}
+use Rattle.machine.proofs.Cut.{drop-places}
 use Rattle.reader.specs.State.{impossible}
 use Rattle.reader.specs.Reading.{Reply, reply, becomes, goesOn, begun, wordsFrom, walkFrom, toldBy, readFault, reading, readingIn}
 use Rattle.reader.specs.Lending.{isLast}
 use Rattle.reader.proofs.AtCapacity.{Ready, ready, read-possible, by-place, accepts, refuses, unfaulted, call-moves}
-use Rattle.reader.proofs.ReadLaws.{grid}
+use Rattle.reader.proofs.ReadLaws.{grid, words-next}
 use Rattle.reader.proofs.Ends.{Same}
 use Rattle.demands.specs.Hearing.{Heard, is-refused, is-end, heardOf, hear, Lends, last, more}
 use Rattle.demands.proofs.Run.{Now, now, metHeard, runTo, runOut, placesTo, placesOut}
-use Rattle.demands.proofs.PlaceRun.{drop-take}
 use Rattle.demands.proofs.LineRun.{leftOut, leftTo, blockPart, areaOut, areaTo}
 use Rattle.demands.proofs.Ear.{Ear, Input, own, refusal, asReader, heardOfInput, earAfter}
 use Rattle.demands.proofs.DeskOk.{AllLong}
@@ -44,17 +44,6 @@ use Rattle.demands.proofs.WalkRun.{Runs, walk-runs, Passes, places-pass
 -- ---- the words from a place on, and from a place further on
 drop-all : {A : Type 0} (n : ℕ) (l : List A) → n ≡ length l → drop n l ≡ []
 drop-all {A} n l e = ap {B = List A} (λ (k : ℕ). drop k l) e ∙ drop-length l
-
-pub words-next : (st : Reader) (q k : ℕ) (line : List ℕ) → wordsFrom st (q + k) line ≡ drop k (wordsFrom st q line)
-unfolding wordsFrom
-words-next st q k line =
-    let a = payloadAt (systemOf (st .system)) in
-    let e = blocksEnd (systemOf (st .system) .payload) (st .settings .block) (st .settings .flag) in
-    let long : e - (q + k) ≡ e - q - k = omega arith in
-    let first : a + (q + k) ≡ a + q + k = omega arith in
-    ap₂ (λ (n i : ℕ). take n (drop i line)) long first
-    ∙ ap (take (e - q - k)) (sym (drop-drop k (a + q) line))
-    ∙ sym (drop-take k (e - q) (drop (a + q) line))
 
 -- from the line's start on
 pub words-first : (st : Reader) (line : List ℕ) → wordsFrom st 0 line ≡ blockPart (st .system) (st .settings) line
@@ -76,20 +65,6 @@ places-long size (suc n) ws h =
 pub places-count : (size n : ℕ) (ws : List ℕ) → length (placesIn size n ws) ≡ n
 places-count size zero ws = refl
 places-count size (suc n) ws = ap suc (places-count size n (drop size ws))
-
-pub drop-places : (size k n : ℕ) (ws : List ℕ) → drop k (placesIn size n ws) ≡ placesIn size (n - k) (drop (k * size) ws)
-drop-places size zero n ws =
-    let e : n ≡ n - 0 = omega arith in
-    ap₂ (λ (i j : ℕ). placesIn size i (drop j ws)) e (sym (zero-mul size))
-drop-places size (suc k) zero ws =
-    let e : 0 ≡ 0 - suc k = omega arith in
-    ap (λ (i : ℕ). placesIn size i (drop (suc k * size) ws)) e
-drop-places size (suc k) (suc n) ws =
-    let e : n - k ≡ suc n - suc k = omega arith in
-    let m : size + k * size ≡ suc k * size = omega (arith, suc-mul k size) in
-    drop-places size k n (drop size ws)
-    ∙ ap (placesIn size (n - k)) (drop-drop (k * size) size ws)
-    ∙ ap₂ (λ (i j : ℕ). placesIn size i (drop j ws)) e m
 
 -- ---- the area from a place on, to its end
 -- the places that are left

@@ -9,3 +9,4 @@ pub mod Demand2
 pub mod Demand3
 pub mod Running
 pub mod Batches
+pub mod Allowed

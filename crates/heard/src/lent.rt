@@ -34,7 +34,7 @@ pub(crate) fn cut(length: usize, index: usize, place: u64, count: u64) -> Part
     }
 }
 
-// The part of the line that a step is lent: `open` and `close` a whole line; `read`, and the steps that say LENGTH, so many words;
+// The part of the line that a step is lent: `open` and `close` a whole line; `read`, `under`, and the steps that say LENGTH, so many words;
 // `words`, `data` and `mix` words of the payload; the others words from an index on.
 pub(crate) fn part_of(s: Step, system: u8, ns: &[u64], length: usize) -> Part
     ensures { λ r. ⌜ (r .from ≤ r .to) × (r .to ≤ length) ⌝ }
@@ -46,7 +46,7 @@ pub(crate) fn part_of(s: Step, system: u8, ns: &[u64], length: usize) -> Part
     let name = s.name;
     match name {
         b'o' | b'c' => cut(length, 0, 0, known.length as u64),
-        b'r' => cut(length, 0, 0, second),
+        b'r' | b'u' => cut(length, 0, 0, second),
         b'O' | b'A' | b'B' | b'C' | b'L' => cut(length, 0, 0, first),
         b'w' => cut(
             length,

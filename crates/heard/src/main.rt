@@ -9,6 +9,7 @@ mod lay; // lay.rt: words into a line, numbers into a state
 mod told; // told.rt: events and the reader's state in a row
 mod calls; // calls.rt: the writer and the reader called
 mod batch; // batch.rt: the writer called with a list of blocks
+mod under; // under.rt: the reader called under an allowance
 mod shown; // shown.rt: rows of words, sums, headers, checks and states
 mod play; // play.rt: which step does what
 

@@ -10,6 +10,7 @@ use crate::shown;
 use crate::states;
 use crate::steps;
 use crate::steps::Step;
+use crate::under;
 
 // Steps of the writer and its heading.
 fn write(
@@ -35,6 +36,7 @@ fn write(
 fn hear(name: u8, ns: &[u64], rd: &mut [u64; 52], part: &mut [u16], room: &mut [u16]) {
     match name {
         b'r' => calls::read(ns, rd, part, room),
+        b'u' => under::under(ns, rd, part, room),
         b'l' | b'a' | b'p' | b's' => lay::put_reader(name, ns, rd),
         _ => lay::lay(name, rd[1], ns, part),
     }

@@ -7,3 +7,4 @@ pub mod PlaceLaws
 pub mod Kept
 pub mod WalkNumberLaws
 pub mod WalkSamples
+pub mod Cut

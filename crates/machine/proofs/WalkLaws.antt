@@ -49,16 +49,20 @@ past-unless n Nothing stop on = refl
 past-unless n (Whole k m) stop on = refl
 past-unless n (Lost m) stop on = refl
 
-past-on : (mode n : ℕ) (ys : List ℕ) (x : Walk) → past n (takenOn mode ys x) ≡ takenOn mode ys (past n x)
-past-on mode n ys x =
-    past-unless n (x .answer .met) x (past (x .answer .taken) (walkOf mode (x .answer .phase) ys (x .room)))
-    ∙ ap (unless (x .answer .met) (past n x)) (past-past n (x .answer .taken) (walkOf mode (x .answer .phase) ys (x .room)))
+-- a walk goes on by f, unless it has stopped
+abbrev pub onBy : (Phase → List ℕ → Walk) → Walk → Walk
+onBy f x = unless (x .answer .met) x (past (x .answer .taken) (f (x .answer .phase) (x .room)))
 
-join-by : (mode n : ℕ) (ys : List ℕ) (p : Phase) (met : Met) (room : List ℕ) (on whole : Walk) → whole ≡ takenOn mode ys on
-    → unless met (walkedTo p met n room) (past n whole) ≡ takenOn mode ys (unless met (walkedTo p met n room) (past n on))
-join-by mode n ys p Nothing room on whole e = ap (past n) e ∙ past-on mode n ys on
-join-by mode n ys p (Whole k m) room on whole e = refl
-join-by mode n ys p (Lost m) room on whole e = refl
+past-on : (f : Phase → List ℕ → Walk) (n : ℕ) (x : Walk) → past n (onBy f x) ≡ onBy f (past n x)
+past-on f n x =
+    past-unless n (x .answer .met) x (past (x .answer .taken) (f (x .answer .phase) (x .room)))
+    ∙ ap (unless (x .answer .met) (past n x)) (past-past n (x .answer .taken) (f (x .answer .phase) (x .room)))
+
+pub join-by : (f : Phase → List ℕ → Walk) (n : ℕ) (p : Phase) (met : Met) (room : List ℕ) (on whole : Walk) → whole ≡ onBy f on
+    → unless met (walkedTo p met n room) (past n whole) ≡ onBy f (unless met (walkedTo p met n room) (past n on))
+join-by f n p Nothing room on whole e = ap (past n) e ∙ past-on f n on
+join-by f n p (Whole k m) room on whole e = refl
+join-by f n p (Lost m) room on whole e = refl
 
 pub walk-append : (mode : ℕ) (p : Phase) (xs ys room : List ℕ) → walkOf mode p (xs ++ ys) room ≡ takenOn mode ys (walkOf mode p xs room)
 unfolding walkOf
@@ -66,4 +70,4 @@ walk-append mode p [] ys room = sym (past-zero (walkOf mode p ys room))
 walk-append mode p (w ∷ xs) ys room =
     let s = stepOf (length room) p w in
     let r = stored (s .keeps) (collectedOf p) (valueOf mode w) room in
-    join-by mode 1 ys (s .phase) (s .met) r (walkOf mode (s .phase) xs r) _ (walk-append mode (s .phase) xs ys r)
+    join-by (λ q l. walkOf mode q ys l) 1 (s .phase) (s .met) r (walkOf mode (s .phase) xs r) _ (walk-append mode (s .phase) xs ys r)

@@ -25,7 +25,7 @@ pub struct Walked {
 }
 
 // Nothing was met.
-pub(crate) fn is_nothing(met: Met) -> bool
+pub fn is_nothing(met: Met) -> bool
     ensures { λ r. ⌜ r ≡ isNothing met ⌝ }
 {
     match met {

@@ -19,10 +19,12 @@ use Rattle.reader.specs.declared.state.Event.the-variants.{Refused}
 use Rattle.reader.specs.State.{capacity, fresh, impossible}
 use Rattle.reader.specs.Reading.{reply, refused, begun, readFault, readFrom, reading}
 use Rattle.reader.specs.Lending.{isBegun, endsWithin}
+use Rattle.reader.specs.Within.{within}
 use Rattle.reader.proofs.Ready as readiness
 use Rattle.reader.proofs.Stays as staying
 use Rattle.reader.proofs.Accepts as accepting
 use Rattle.reader.proofs.Ends as ending
+use Rattle.reader.proofs.Pausing as pausing
 
 pub enough : 1920 ≤ capacity
 enough = omega arith
@@ -63,6 +65,9 @@ fresh-possible = staying.fresh-possible capacity
 pub read-possible : (st : Reader) (line room : List ℕ) → impossible st ≡ false → impossible (reading st line room .told .state) ≡ false
 read-possible = staying.read-possible capacity
 
+pub never-2 : (st : Reader) → impossible st ≡ false → (line room : List ℕ) (d : Bool) → reading st line room .told .event ≡ Refused 2 d → ⊥
+never-2 = staying.never-2 capacity
+
 pub fresh-never-2 : (system mode : ℕ) (st : Reader) → staying.Reached capacity system mode st → (line room : List ℕ) (d : Bool) → reading st line room .told .event ≡ Refused 2 d → ⊥
 fresh-never-2 = staying.fresh-never-2 capacity
 
@@ -78,3 +83,10 @@ rest-ends = ending.rest-ends capacity enough
 pub line-ends : (st : Reader) (line room : List ℕ) → st .place ≡ Shut
     → endsWithin (areaLength (systemOf (st .system) .payload) (settingsOf line .flag) + 2) st line room ≡ true
 line-ends = ending.line-ends capacity enough
+
+pub payload-ends : (st : Reader) (line room : List ℕ) → st .place ≡ Shut → endsWithin (systemOf (st .system) .payload + 2) st line room ≡ true
+payload-ends = ending.payload-ends capacity enough
+
+-- ---- a call under an allowance
+pub outcome : (a : ℕ) (st : Reader) (line room : List ℕ) → pausing.Outcome capacity a st line room (within a st line room)
+outcome a = pausing.outcome capacity a enough

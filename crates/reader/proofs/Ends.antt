@@ -1,7 +1,7 @@
 -- A line comes to its end: each call on a begun line reports the end or moves on in the area, so a line of area A ends within A + 2 calls.
 -- Assumes nothing.
 use mathlib.Core.Path.{_≡_, refl, sym, ap, ap₂, _∙_, subst}
-use mathlib.Core.Bool.{Bool, true, false, not}
+use mathlib.Core.Bool.{Bool, true, false, _||_, not}
 use mathlib.Core.List.{List}
 use mathlib.Core.Logic.{_⊎_, inl, inr, ⊎-elim}
 use Prim.Native.Nat.{ℕ, zero, suc, _+_, _-_, _/_, _≤_, _<_}
@@ -10,12 +10,13 @@ use lib.Dec.{eqb}
 use lib.ListN.{length}
 use borrow.Author.Tests.{eqb-true, eq-eqb, not-false}
 use Rattle.lists.specs.Tests.{pick}
-use Rattle.lists.proofs.Tests.{or-left, or-right, both-true, and-true, pick-true, pick-false}
+use Rattle.lists.proofs.Tests.{true-false, or-left, or-right, both-true, and-true, pick-true, pick-false}
 use Rattle.line.specs.declared.settings.Settings.{Settings}
 use Rattle.line.specs.Systems.{systemOf, isSystem}
 use Rattle.line.specs.Fixed.{isVariable, placesOf, sizeOf}
 use Rattle.line.specs.Layout.{areaLength}
 use Rattle.line.specs.Check.{numberOf, settingsOf, fitsLength, fits, lineFault}
+use Rattle.line.proofs.AreaLaws.{area-most}
 use Rattle.course.specs.declared.Place.the-variants.{Shut, At}
 use Rattle.course.specs.Course.{blocksEnd}
 use Rattle.course.proofs.CourseLaws.{end-in-area, grid-left}
@@ -176,21 +177,21 @@ rest-ends c wide st q line room fit at = ends-by c wide (endIn st - q + 1) st q 
 
 -- ---- a whole line
 -- what a line begun leaves: the line's start, and its settings
-record Starts (st : Reader) (line room : List ℕ) (x : Reply) : Type 0 where
-  same : Same st room x
-  settings : x .told .state .settings ≡ settingsOf line
-  place : x .told .state .place ≡ At 0
+pub record Starts (st : Reader) (line room : List ℕ) (x : Reply) : Type 0 where
+  pub same : Same st room x
+  pub settings : x .told .state .settings ≡ settingsOf line
+  pub place : x .told .state .place ≡ At 0
 
-begun-starts : (st : Reader) (line room : List ℕ) → Starts st line room (reply (begun st (numberOf line) (settingsOf line)) room)
+pub begun-starts : (st : Reader) (line room : List ℕ) → Starts st line room (reply (begun st (numberOf line) (settingsOf line)) room)
 unfolding begun
 begun-starts st line room = record { same = record { system = refl; mode = refl; room-long = refl }; settings = refl; place = refl }
 
 -- blocks end in the area
-in-area : (c : ℕ) (st : Reader) (line room : List ℕ) → readFaultIn c st (length line) (length room) ≡ 0 → st .place ≡ At 0 → endIn st ≤ areaLength (systemOf (st .system) .payload) (st .settings .flag)
+pub in-area : (c : ℕ) (st : Reader) (q : ℕ) (line room : List ℕ) → readFaultIn c st (length line) (length room) ≡ 0 → st .place ≡ At q → endIn st ≤ areaLength (systemOf (st .system) .payload) (st .settings .flag)
 unfolding fitsLength
-in-area c st line room fit at =
+in-area c st q line room fit at =
     let r = ready c st line room fit in
-    end-in-area (st .system) (st .settings) (both-true (isSystem (st .system)) _ (r .fit) .0) (eqb-true _ 0 (not-false _ (at-q st 0 line room at r .clean)))
+    end-in-area (st .system) (st .settings) (both-true (isSystem (st .system)) _ (r .fit) .0) (eqb-true _ 0 (not-false _ (at-q st q line room at r .clean)))
 
 module _ (c : ℕ) (wide : 1920 ≤ c) (st : Reader) (line room : List ℕ) (at : st .place ≡ Shut) where
   abbrev area : ℕ
@@ -204,7 +205,7 @@ module _ (c : ℕ) (wide : 1920 ≤ c) (st : Reader) (line room : List ℕ) (at 
       let again = fit-again c st line room fit (s .same) in
       let same : areaLength (systemOf (x .told .state .system) .payload) (x .told .state .settings .flag) ≡ area =
       ap₂ (λ (k : ℕ) (t : Settings). areaLength (systemOf k .payload) (t .flag)) (s .same .system) (s .settings) in
-      later-ends c (suc area) st line room (ends-by c wide (suc area) (x .told .state) 0 line (x .room) again (s .place) (omega (arith, same, in-area c (x .told .state) line (x .room) again (s .place))))
+      later-ends c (suc area) st line room (ends-by c wide (suc area) (x .told .state) 0 line (x .room) again (s .place) (omega (arith, same, in-area c (x .told .state) 0 line (x .room) again (s .place))))
 
   fit-ends : readFaultIn c st (length line) (length room) ≡ 0 → (n : ℕ) → lineFault (st .system) (st .mode) line ≡ n
       → endsWithinIn c (suc (suc (areaLength (systemOf (st .system) .payload) (settingsOf line .flag)))) st line room ≡ true
@@ -224,3 +225,23 @@ line-ends c wide st line room at =
     let a = areaLength (systemOf (st .system) .payload) (settingsOf line .flag) in
     let two : a + 2 ≡ suc (suc a) = omega arith in
     ap (λ (n : ℕ). endsWithinIn c n st line room) two ∙ any-ends c wide st line room at _ refl
+
+-- ---- more calls
+pub ends-more : (c n m : ℕ) (st : Reader) (line room : List ℕ) → n ≤ m → endsWithinIn c n st line room ≡ true → endsWithinIn c m st line room ≡ true
+ends-more c zero m st line room h e = absurd (true-false (sym e))
+ends-more c (suc n) zero st line room h e = absurd (omega arith)
+ends-more c (suc n) (suc m) st line room h e = go (isLast (readingIn c st line room .told .event)) (λ z. ends-more c n m _ line _ (omega arith) z) e
+  where
+    go : (b : Bool) → (endsWithinIn c n (readingIn c st line room .told .state) line (readingIn c st line room .room) ≡ true
+        → endsWithinIn c m (readingIn c st line room .told .state) line (readingIn c st line room .room) ≡ true)
+        → (b || endsWithinIn c n (readingIn c st line room .told .state) line (readingIn c st line room .room)) ≡ true
+        → (b || endsWithinIn c m (readingIn c st line room .told .state) line (readingIn c st line room .room)) ≡ true
+    go true k e = refl
+    go false k e = k e
+
+-- no line needs more than P + 2
+pub payload-ends : (c : ℕ) → 1920 ≤ c → (st : Reader) (line room : List ℕ) → st .place ≡ Shut → endsWithinIn c (systemOf (st .system) .payload + 2) st line room ≡ true
+payload-ends c wide st line room at =
+    let p = systemOf (st .system) .payload in
+    let flag = settingsOf line .flag in
+    ends-more c (areaLength p flag + 2) (p + 2) st line room (omega (arith, area-most p flag)) (line-ends c wide st line room at)

@@ -7,6 +7,9 @@ pub mod Accepts
 pub mod NumberLaws
 pub mod ReadLaws
 pub mod Ends
+pub mod Cutting
+pub mod WithinLaws
+pub mod Pausing
 pub mod AtCapacity
 pub mod JumpSamples
 pub mod GapUnread

@@ -81,7 +81,7 @@ pub start-numbered : (st : Reader) (line : List ℕ) (x : Told) → x ≡ starts
 start-numbered st line x e = (e, ap (λ (y : Told). eventNumbers (y .event)) e ∙ start-numbers st line)
 
 -- ---- a line begun
-later-numbers : (st : Reader) (q : ℕ) (p : Phase) (met : Met) → eventNumbers (toldBy st q p met .event) ≡ laterBy (metNumbers met)
+pub later-numbers : (st : Reader) (q : ℕ) (p : Phase) (met : Met) → eventNumbers (toldBy st q p met .event) ≡ laterBy (metNumbers met)
 unfolding laterBy pick
 later-numbers st q p Nothing = refl
 later-numbers st q p (Whole k n) = refl

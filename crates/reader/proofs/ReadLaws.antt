@@ -1,15 +1,16 @@
 -- Laws of a reading call: what is lent to the walk, and what the call then tells.
 -- Assumes nothing.
 use mathlib.Core.Path.{_≡_, refl, sym, ap, ap₂, _∙_}
-use mathlib.Core.Bool.{true, false, _&&_, not}
+use mathlib.Core.Bool.{Bool, true, false, _&&_, not}
 use mathlib.Core.List.{List, [], _∷_}
 use Prim.Native.Nat.{ℕ, _+_, _-_, _*_, _/_, _≤_}
 use native.Mathlib.Omega.{arith}
 use lib.Dec.{eqb}
 use lib.ListN.{length, take, drop}
+use lib.Seq.{take-all, take-take, drop-drop}
 use borrow.Author.Tests.{eqb-true, ne-eqb, not-false}
-use Rattle.lists.specs.Tests.{when}
-use Rattle.lists.proofs.Tests.{both-true, pick-false}
+use Rattle.lists.specs.Tests.{pick, when}
+use Rattle.lists.proofs.Tests.{both-true, pick-true, pick-false}
 use Rattle.lists.proofs.Refusals.{low-none, low-hit, low-miss}
 use Rattle.line.specs.declared.systems.System.{System}
 use Rattle.line.specs.Systems.{systemOf, isSystem}
@@ -24,11 +25,37 @@ use Rattle.course.specs.Course.{blocksEnd}
 use Rattle.course.proofs.CourseLaws.{end-in-area, placed-end, grid-left, grid-some, grid-count, whole-small}
 use Rattle.reader.specs.declared.state.Reader.{Reader}
 use Rattle.reader.specs.State.{impossibleIn}
+use Rattle.machine.specs.Walk.{Walk, walkOf}
+use Rattle.machine.specs.Places.{placesIn, walkPlaces, walkFixed}
+use Rattle.machine.proofs.PlaceLaws.{fixed-walk}
+use Rattle.machine.proofs.Cut.{drop-take}
 use Rattle.reader.specs.Reading.{reply, wordsFrom, walkFrom, readFaultIn, readFrom, readingIn}
+use Rattle.reader.specs.Within.{walkTo}
 use Rattle.reader.specs.declared.state.Event.the-variants.{Refused}
 use Rattle.reader.proofs.Ready.{ReadyIn, ready, at-q, in-end, words-long}
-use Rattle.reader.proofs.Stays.{walk-goes}
+use Rattle.reader.proofs.Stays.{Goes}
 use Rattle.reader.proofs.Accepts.{by-place}
+
+-- the words from a place further on
+pub words-next : (st : Reader) (q k : ℕ) (line : List ℕ) → wordsFrom st (q + k) line ≡ drop k (wordsFrom st q line)
+unfolding wordsFrom
+words-next st q k line =
+    let a = payloadAt (systemOf (st .system)) in
+    let e = blocksEnd (systemOf (st .system) .payload) (st .settings .block) (st .settings .flag) in
+    let long : e - (q + k) ≡ e - q - k = omega arith in
+    let first : a + (q + k) ≡ a + q + k = omega arith in
+    ap₂ (λ (n i : ℕ). take n (drop i line)) long first
+    ∙ ap (take (e - q - k)) (sym (drop-drop k (a + q) line))
+    ∙ sym (drop-take k (e - q) (drop (a + q) line))
+
+-- blocks end in the payload
+pub end-small : {c : ℕ} (st : Reader) (q : ℕ) (line room : List ℕ) → st .place ≡ At q → ReadyIn c st line room
+    → blocksEnd (systemOf (st .system) .payload) (st .settings .block) (st .settings .flag) ≤ 1920
+unfolding fitsLength
+end-small st q line room at r =
+    let known : isSystem (st .system) ≡ true = both-true (isSystem (st .system)) _ (r .fit) .0 in
+    let area = end-in-area (st .system) (st .settings) known (eqb-true _ 0 (not-false _ (at-q st q line room at r .clean))) in
+    omega (arith, area, area-most (systemOf (st .system) .payload) (st .settings .flag), payload-most (st .system))
 
 module _ {c : ℕ} (st : Reader) (q : ℕ) (line room : List ℕ) (at : st .place ≡ At q) (r : ReadyIn c st line room) (s : System) (row : s ≡ systemOf (st .system)) where
   pub payload-in : s .payload ≤ s .length
@@ -39,25 +66,24 @@ module _ {c : ℕ} (st : Reader) (q : ℕ) (line room : List ℕ) (at : st .plac
     pub ends : a + e ≤ length line
     pub inside : q ≤ e
     pub small : length line ≤ 2304
-    pub words : take (a + e - (a + q)) (drop (a + q) line) ≡ wordsFrom st q line
+    pub words : take (a + e - (a + q)) (drop (a + q) line) ≡ take (e - q) (wordsFrom st q line)
 
-  pub span : (e : ℕ) → e ≡ blocksEnd (s .payload) (st .settings .block) (st .settings .flag) → Span (s .length - s .payload) e
+  pub span : (e : ℕ) → q ≤ e → e ≤ blocksEnd (systemOf (st .system) .payload) (st .settings .block) (st .settings .flag) → Span (s .length - s .payload) e
   unfolding wordsFrom fitsLength
-  span e is =
+  span e low high =
       let known : isSystem (st .system) ≡ true = both-true (isSystem (st .system)) _ (r .fit) .0 in
       let f = fitting (st .system) (st .mode) line (r .fit) in
       let b = at-q st q line room at r in
       let area = end-in-area (st .system) (st .settings) known (eqb-true _ 0 (not-false _ (b .clean))) in
       let most = area-most (systemOf (st .system) .payload) (st .settings .flag) in
-      let end : e ≡ blocksEnd (systemOf (st .system) .payload) (st .settings .block) (st .settings .flag) =
-      is ∙ ap (λ (x : System). blocksEnd (x .payload) (st .settings .block) (st .settings .flag)) row in
+      let end = blocksEnd (systemOf (st .system) .payload) (st .settings .block) (st .settings .flag) in
       let first : s .length - s .payload ≡ payloadAt (systemOf (st .system)) = ap (λ (x : System). x .length - x .payload) row in
       let long : s .length - s .payload + e - (s .length - s .payload + q) ≡ e - q = omega arith in
       record {
-        ends = rw first (omega (arith, end, area, most, f .row .room, f .long));
-        inside = omega (arith, end, in-end st q line room at r);
+        ends = rw first (omega (arith, high, area, most, f .row .room, f .long));
+        inside = low;
         small = omega (arith, f .long, length-most (st .system));
-        words = ap₂ (λ (n i : ℕ). take n (drop i line)) (long ∙ ap (λ (x : ℕ). x - q) end) (ap (λ (x : ℕ). x + q) first);
+        words = ap₂ (λ (n i : ℕ). take n (drop i line)) long (ap (λ (x : ℕ). x + q) first) ∙ sym (take-take (e - q) (end - q) (drop (payloadAt (systemOf (st .system)) + q) line) (omega (arith, high)));
       }
 
   -- the places of a fixed line that are left
@@ -94,16 +120,38 @@ module _ {c : ℕ} (st : Reader) (q : ℕ) (line room : List ℕ) (at : st .plac
       omega (arith, whole-small p (st .settings .block) flag v (block-passes (st .system) (st .settings) clean), area, area-most p flag, payload-most (st .system), r .long, wide)
 
   -- the place after a walk is within the payload
-  pub next-small : q + walkFrom st q line room .answer .taken ≤ 1920
-  unfolding fitsLength
-  next-small =
-      let known : isSystem (st .system) ≡ true = both-true (isSystem (st .system)) _ (r .fit) .0 in
-      let b = at-q st q line room at r in
-      let g = walk-goes st q line room at r in
-      let p = systemOf (st .system) .payload in
-      let area = end-in-area (st .system) (st .settings) known (eqb-true _ 0 (not-false _ (b .clean))) in
-      let end = placed-end p (st .settings .block) (st .settings .flag) (q + walkFrom st q line room .answer .taken) (g .placed) in
-      omega (arith, end, area, area-most p (st .settings .flag), payload-most (st .system))
+  pub next-small : (x : Walk) → Goes c st q x → q + x .answer .taken ≤ 1920
+  next-small x g =
+      omega (arith, placed-end (systemOf (st .system) .payload) (st .settings .block) (st .settings .flag) (q + x .answer .taken) (g .placed), end-small st q line room at r)
+
+-- ---- a walk to where blocks end is the walk from place q on
+module _ {c : ℕ} (st : Reader) (q : ℕ) (line room : List ℕ) (at : st .place ≡ At q) (r : ReadyIn c st line room) (wide : 1920 ≤ c) where
+  pub whole-walk : (e : ℕ) → e ≡ blocksEnd (systemOf (st .system) .payload) (st .settings .block) (st .settings .flag) → walkTo e st q line room ≡ walkFrom st q line room
+  unfolding walkTo walkFrom
+  whole-walk e is =
+      let block = st .settings .block in
+      let ws = wordsFrom st q line in
+      let size = sizeOf block in
+      let all : take (e - q) ws ≡ ws = take-all (e - q) ws (omega (arith, words-long st q line room at r, is)) in
+      ap (λ (l : List ℕ). pick (isVariable block) (walkOf (st .mode) (st .phase) l room) (walkFixed (st .mode) (st .phase) size l room)) all
+      ∙ go (isVariable block) refl
+    where
+      go : (b : Bool) → isVariable (st .settings .block) ≡ b →
+          let size = sizeOf (st .settings .block) in
+          let ws = wordsFrom st q line in
+          pick b (walkOf (st .mode) (st .phase) ws room) (walkFixed (st .mode) (st .phase) size ws room)
+          ≡ pick b (walkOf (st .mode) (st .phase) ws room)
+          (walkPlaces (st .mode) (st .phase) (placesIn size (placesOf (systemOf (st .system) .payload) (st .settings .block) - q / size) ws) room)
+      go true v = pick-true _ _ refl ∙ sym (pick-true _ _ refl)
+      go false v =
+          let size = sizeOf (st .settings .block) in
+          let ws = wordsFrom st q line in
+          let row = systemOf (st .system) in
+          let g = grid st q line room at r row refl v size refl in
+          pick-false _ _ refl
+          ∙ fixed-walk (st .mode) (st .phase) size ws room (g .one) (omega (arith, block-fits st q line room at r row refl wide v))
+          ∙ ap (λ (n : ℕ). walkPlaces (st .mode) (st .phase) (placesIn size n ws) room) (g .count)
+          ∙ sym (pick-false _ _ refl)
 
 -- ---- which of 1 and 2 the tests give
 module _ (c : ℕ) (st : Reader) (long room : ℕ) where

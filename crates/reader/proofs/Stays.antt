@@ -3,7 +3,7 @@
 use mathlib.Core.Path.{_≡_, refl, sym, ap, _∙_, subst}
 use mathlib.Core.Bool.{Bool, true, false, _&&_, not}
 use mathlib.Core.List.{List, _++_}
-use Prim.Native.Nat.{ℕ, zero, suc, _+_, _-_, _/_}
+use Prim.Native.Nat.{ℕ, zero, suc, _+_, _-_, _/_, _≤_}
 use native.Mathlib.Omega.{arith}
 use lib.Dec.{eqb, leb}
 use lib.ListN.{length, getD}
@@ -19,7 +19,7 @@ use Rattle.line.specs.Systems.{systemOf}
 use Rattle.line.specs.Fixed.{isVariable, placesOf, sizeOf}
 use Rattle.line.specs.Settings.{settingsFaults, settingsFault, sameSettings}
 use Rattle.line.specs.Check.{low, numberOf, settingsOf, numbered, headFaults, payloadFaults, faults, lineFaults, lineFault, checkedFrom, checkedOf}
-use Rattle.course.specs.Course.{misplaced}
+use Rattle.course.specs.Course.{blocksEnd, misplaced}
 use Rattle.line.proofs.CheckLaws.{check-rising, fault-not-2}
 use Rattle.course.proofs.CourseLaws.{start-placed, variable-placed, grid-next, grid-left, begun, begins}
 use Rattle.machine.specs.declared.phase.Phase.{Phase}
@@ -113,27 +113,29 @@ module _ {c : ℕ} (st : Reader) (q : ℕ) (line room : List ℕ) (at : st .plac
   abbrev block : ℕ
   block = st .settings .block
 
-  variable-goes : isVariable (st .settings .block) ≡ true → Goes c st q (walkOf (st .mode) (st .phase) (wordsFrom st q line) room)
-  variable-goes v =
-      let k = walk-kept (st .mode) (st .phase) (wordsFrom st q line) room in
-      let x = walkOf (st .mode) (st .phase) (wordsFrom st q line) room in
+  -- over words that end before blocks do
+  pub variable-goes : isVariable (st .settings .block) ≡ true → (ws : List ℕ) → q + length ws ≤ blocksEnd (systemOf (st .system) .payload) (st .settings .block) (st .settings .flag)
+      → Goes c st q (walkOf (st .mode) (st .phase) ws room)
+  variable-goes v ws h =
+      let k = walk-kept (st .mode) (st .phase) ws room in
+      let x = walkOf (st .mode) (st .phase) ws room in
       record {
-        placed = variable-placed payload block (st .settings .flag) (q + x .answer .taken) v (omega (arith, k .at-most, words-long st q line room at r, in-end st q line room at r));
+        placed = variable-placed payload block (st .settings .flag) (q + x .answer .taken) v (omega (arith, k .at-most, h));
         varied = and-none (isBusy (x .answer .phase)) (not (isVariable block)) (ap not v);
         phased =
             subst (λ (n : ℕ). misphased n (x .answer .phase) ≡ false) (r .long)
             (k .phased (subst (λ (n : ℕ). misphased n (st .phase) ≡ false) (sym (r .long)) (phase-of c st (r .state))));
       }
 
-  fixed-goes : isVariable (st .settings .block) ≡ false
-      → Goes c st q (walkPlaces (st .mode) (st .phase) (placesIn (sizeOf (st .settings .block)) (placesOf (systemOf (st .system) .payload) (st .settings .block) - q / sizeOf (st .settings .block)) (wordsFrom st q line)) room)
-  fixed-goes v =
+  -- over so many of the places that are left
+  pub fixed-goes : isVariable (st .settings .block) ≡ false → (n : ℕ) → n ≤ placesOf (systemOf (st .system) .payload) (st .settings .block) - q / sizeOf (st .settings .block)
+      → Goes c st q (walkPlaces (st .mode) (st .phase) (placesIn (sizeOf (st .settings .block)) n (wordsFrom st q line)) room)
+  fixed-goes v n few =
       let flag = st .settings .flag in
       let size = sizeOf block in
-      let n = placesOf payload block - q / size in
-      let all = grid-left payload block flag q n v (at-q st q line room at r .placed) (omega arith) in
+      let all = grid-left payload block flag q n v (at-q st q line room at r .placed) few in
       let k = places-along (st .mode) (st .phase) size n (wordsFrom st q line) room (omega (arith, words-long st q line room at r, all)) in
-      let next = grid-next payload block flag q (k .count) v (at-q st q line room at r .placed) (grid-left payload block flag q (k .count) v (at-q st q line room at r .placed) (k .at-most)) in
+      let next = grid-next payload block flag q (k .count) v (at-q st q line room at r .placed) (grid-left payload block flag q (k .count) v (at-q st q line room at r .placed) (omega (arith, k .at-most, few))) in
       record {
         placed = subst (λ (j : ℕ). misplaced payload block flag (At (q + j)) ≡ false) (sym (k .whole)) next;
         varied = ap (λ (p : Phase). isBusy p && not (isVariable block)) (k .phase) ∙ at-q st q line room at r .varied;
@@ -146,10 +148,10 @@ module _ {c : ℕ} (st : Reader) (q : ℕ) (line room : List ℕ) (at : st .plac
     where
       go : (b : Bool) → isVariable block ≡ b
           → Goes c st q (pick (isVariable block) (walkOf (st .mode) (st .phase) (wordsFrom st q line) room) (walkPlaces (st .mode) (st .phase) (placesIn (sizeOf block) (placesOf payload block - q / sizeOf block) (wordsFrom st q line)) room))
-      go true v = subst (Goes c st q) (sym (pick-true _ _ v)) (variable-goes v)
-      go false v = subst (Goes c st q) (sym (pick-false _ _ v)) (fixed-goes v)
+      go true v = subst (Goes c st q) (sym (pick-true _ _ v)) (variable-goes v (wordsFrom st q line) (omega (arith, words-long st q line room at r, in-end st q line room at r)))
+      go false v = subst (Goes c st q) (sym (pick-false _ _ v)) (fixed-goes v (placesOf payload block - q / sizeOf block) (omega arith))
 
-  told-possible : (i : ℕ) (p : Phase) (met : Met) → misplaced (systemOf (st .system) .payload) (st .settings .block) (st .settings .flag) (At i) ≡ false
+  pub told-possible : (i : ℕ) (p : Phase) (met : Met) → misplaced (systemOf (st .system) .payload) (st .settings .block) (st .settings .flag) (At i) ≡ false
       → (isBusy p && not (isVariable (st .settings .block))) ≡ false → misphased c p ≡ false → impossibleIn c (toldBy st i p met .state) ≡ false
   told-possible i p Nothing x y z =
       let b = at-q st q line room at r in

@@ -4,3 +4,4 @@ pub mod Events
 pub mod Reading
 pub mod Numbers
 pub mod Lending
+pub mod Within

@@ -27,13 +27,14 @@ ghost use Rattle.machine.specs.Walk.{leaves};
 ghost use Rattle.reader.specs.Events.{eventNumbers};
 ghost use Rattle.reader.specs.Numbers.{readBy};
 ghost use Rattle.reader.specs.Reading.{reply, walkFrom, toldBy, goesFrom, readFaultIn, readingIn, reading};
+ghost use Rattle.reader.specs.Within.{walkTo};
 
 // What a call asks before it reads: the lower of 1 and 2 that holds, or 0; and then where blocks end in the line, and the size of a fixed
 // block.
-struct Asked {
-    fault: u8,
-    end: usize,
-    size: u16,
+pub(crate) struct Asked {
+    pub(crate) fault: u8,
+    pub(crate) end: usize,
+    pub(crate) size: u16,
 }
 
 // A call that 1 or 2 refuses reads nothing.
@@ -48,7 +49,7 @@ fn barred(fault: u8) -> Asked
 }
 
 // Each test leaves, and the table of fixed blocks is looked up once, because a call of a fixed line moves few words.
-fn ask(capacity: usize, st: Reader, long: usize, room: usize) -> Asked
+pub(crate) fn ask(capacity: usize, st: Reader, long: usize, room: usize) -> Asked
     ensures { λ r. ⌜ (r .fault ≡ readFaultIn capacity st long room)
         × (r .fault ≡ 0 → (r .end ≡ blocksEnd (systemOf (st .system) .payload) (st .settings .block) (st .settings .flag))
         × (r .size ≡ sizeOf (st .settings .block))) ⌝ }
@@ -74,11 +75,18 @@ fn ask(capacity: usize, st: Reader, long: usize, room: usize) -> Asked
     }
 }
 
-// The walk from place q to the end of the words in which blocks stand.
-fn walk_from(st: Reader, end: usize, size: u16, q: usize, line: &[u16], room: &mut [u16]) -> Walked
-    requires { ⌜ (st .place ≡ At q) × (readFaultIn (length (now room)) st (length (now line)) (length (now room)) ≡ 0) × (1920 ≤ length (now room))
-        × (end ≡ blocksEnd (systemOf (st .system) .payload) (st .settings .block) (st .settings .flag)) × (size ≡ sizeOf (st .settings .block)) ⌝ }
-    ensures { λ r. ⌜ leaves r (now (room .exit)) ≡ walkFrom st q (now (line .entry)) (now (room .entry)) ⌝ }
+// The walk from place q to before another, which is no further than the end of the words in which blocks stand.
+pub(crate) fn walk_from(
+    st: Reader,
+    end: usize,
+    size: u16,
+    q: usize,
+    line: &[u16],
+    room: &mut [u16],
+) -> Walked
+    requires { ⌜ (st .place ≡ At q) × (readFaultIn (length (now room)) st (length (now line)) (length (now room)) ≡ 0) × (q ≤ end)
+        × (end ≤ blocksEnd (systemOf (st .system) .payload) (st .settings .block) (st .settings .flag)) × (size ≡ sizeOf (st .settings .block)) ⌝ }
+    ensures { λ r. ⌜ leaves r (now (room .exit)) ≡ walkTo end st q (now (line .entry)) (now (room .entry)) ⌝ }
 {
     let s = systems::system_of(st.system);
     let settings = st.settings;
@@ -93,7 +101,7 @@ fn walk_from(st: Reader, end: usize, size: u16, q: usize, line: &[u16], room: &m
 }
 
 // What the call tells of what was met, the place being q afterwards.
-fn tell(st: Reader, q: usize, phase: Phase, met: Met) -> Told
+pub(crate) fn tell(st: Reader, q: usize, phase: Phase, met: Met) -> Told
     ensures { λ r. ⌜ r ≡ toldBy st q phase met ⌝ }
 {
     let last = st.last;

@@ -1,22 +1,18 @@
 -- `reader::read::walk_from` meets its contract. Assumes nothing.
 use Rattle.lists.proofs.Needs.{need}
-use mathlib.Core.Path.{_≡_, sym, ap, _∙_}
+use mathlib.Core.Path.{_≡_, sym, ap, ap₂, _∙_}
 use mathlib.Core.Bool.{false}
 use mathlib.Core.List.{List}
-use Prim.Native.Nat.{ℕ, _-_, _/_}
+use Prim.Native.Nat.{ℕ, _-_}
 use native.Mathlib.Omega.{arith}
 use lib.ListN.{length}
 use Rattle.lists.proofs.Tests.{pick-true, pick-false}
-use Rattle.line.specs.declared.systems.System.{System}
-use Rattle.line.specs.Systems.{systemOf}
-use Rattle.line.specs.Fixed.{isVariable, placesOf}
-use Rattle.course.specs.Course.{blocksEnd}
+use Rattle.line.specs.Fixed.{isVariable}
 use Rattle.machine.specs.Walk.{walkOf}
-use Rattle.machine.specs.Places.{placesIn, walkPlaces, walkFixed}
-use Rattle.machine.proofs.PlaceLaws.{fixed-walk}
-use Rattle.reader.specs.Reading.{walkFrom, wordsFrom}
+use Rattle.machine.specs.Places.{walkFixed}
+use Rattle.reader.specs.Within.{walkTo}
 use Rattle.reader.proofs.Ready.{ReadyIn, ready}
-use Rattle.reader.proofs.ReadLaws.{payload-in, Span, span, Grid, grid, block-fits}
+use Rattle.reader.proofs.ReadLaws.{payload-in, Span, span}
 use borrow.Author.Needs.{needs}
 use Rattle.reader.proofs.read.walk_from.Statement.{statement}
 use Rattle.reader.proofs.read.walk_from.Tie as tie
@@ -31,23 +27,13 @@ spanned : (x : tie.After-system-of) →
     let s = x .system-of .result in
     Span (g .st) (g .q) (g .line .now) (g .room .now) (x .before .before .before .pre .0) (is-ready x) s (x .system-of .ensures) (s .length - s .payload) (g .end)
 spanned x =
-    let g = x .before .before .before .args in
-    let same = ap (λ (s : System). blocksEnd (s .payload) (g .st .settings .block) (g .st .settings .flag)) (x .system-of .ensures) in
-    span _ _ _ _ _ (is-ready x) (x .system-of .result) (x .system-of .ensures) (g .end) (x .before .before .before .pre .3 ∙ sym same)
+    let s = x .before .before .before in
+    span _ _ _ _ _ (is-ready x) (x .system-of .result) (x .system-of .ensures) (s .args .end) (s .pre .2) (s .pre .3)
 
--- a fixed line's places
 fixed-line : (b : tie.Else1) →
     let g = b .before .before .before .before .before .before .before .args in
     isVariable (g .st .settings .block) ≡ false
 fixed-line b = sym (b .before .is-variable .ensures) ∙ b .if1 .left
-
-gridded : (n : tie.Else1) →
-    let x = n .before .before .before .before in
-    let g = x .before .before .before .args in
-    Grid (g .st) (g .q) (g .line .now) (g .room .now) (x .before .before .before .pre .0) (is-ready x) (x .system-of .result) (x .system-of .ensures) (g .size)
-gridded n =
-    let x = n .before .before .before .before in
-    grid _ _ _ _ _ (is-ready x) (x .system-of .result) (x .system-of .ensures) (fixed-line n) _ (x .before .before .before .pre .4)
 
 sub-a : tie.Need-sub-a
 sub-a c = payload-in _ _ _ _ (c .before .before .before .before .before .pre .0) (is-ready (c .before .before)) _ (c .before .before .system-of .ensures)
@@ -71,7 +57,7 @@ part-walk-end : tie.Need-part-walk-end
 part-walk-end c = spanned (c .before .before .before .before) .ends
 
 returns : tie.Need-returns
-unfolding walkFrom
+unfolding walkTo
 returns c =
     let v = c .before .before .before .before .before .before in
     let x = v .before .before .before in
@@ -93,21 +79,14 @@ part-walk-fixed-end : tie.Need-part-walk-fixed-end
 part-walk-fixed-end c = spanned (c .before .before .before .before) .ends
 
 returns-2 : tie.Need-returns-2
-unfolding walkFrom
+unfolding walkTo
 returns-2 c =
     let n = c .before .before .before .before .before in
     let x = n .before .before .before .before in
     let g = x .before .before .before .args in
-    let ws = wordsFrom (g .st) (g .q) (g .line .now) in
-    let p = placesOf (systemOf (g .st .system) .payload) (g .st .settings .block) in
-    let k : ℕ → ℕ → List ℕ → _ = λ size places ws. walkPlaces (g .st .mode) (g .st .phase) (placesIn size places ws) (g .room .now) in
-    let grid = gridded n in
-    let fits = block-fits _ _ _ _ (x .before .before .before .pre .0) (is-ready x) (x .system-of .result) (x .system-of .ensures) (x .before .before .before .pre .2) (fixed-line n) in
+    let walks : ℕ → List ℕ → _ = λ size ws. walkFixed (g .st .mode) (g .st .phase) size ws (g .room .now) in
     c .before .before .walk-fixed .ensures .0
-    ∙ ap (λ (ws : List ℕ). walkFixed (g .st .mode) (g .st .phase) (g .size) ws (g .room .now)) (spanned x .words)
-    ∙ fixed-walk (g .st .mode) (g .st .phase) (g .size) ws (g .room .now) (grid .one) (omega (arith, fits, x .before .before .before .pre .4))
-    ∙ ap (λ (places : ℕ). k (g .size) places ws) (grid .count)
-    ∙ ap (λ (size : ℕ). k size (p - g .q / size) ws) (x .before .before .before .pre .4)
+    ∙ ap₂ walks (x .before .before .before .pre .4) (spanned x .words)
     ∙ sym (pick-false _ _ (fixed-line n))
 
 pub walk-from-spec : {M : Type 1} → statement M

@@ -1,0 +1,22 @@
+-- `slices::rounds::read_rounds` is safe and ends. Assumes nothing.
+use Rattle.lists.proofs.Needs.{need}
+use mathlib.Core.Path.{_≡_}
+use Prim.Native.Nat.{_≤_, _-_}
+use lib.ListN.{length}
+use borrow.Author.Needs.{needs}
+use Rattle.slices.proofs.rounds.read_rounds.Statement.{statement}
+use Rattle.slices.proofs.rounds.read_rounds.Tie as tie
+
+abbrev Inv-loop : tie.InvT-loop
+Inv-loop mode rounds batch room₀ digest₀ i₀ room digest i = (i ≤ rounds) × (length room ≡ length room₀)
+
+abbrev μ-loop : tie.MeasureT-loop
+μ-loop mode rounds batch room₀ digest₀ i₀ room digest i = rounds - i
+
+pub read-rounds-spec : {M : Type 1} → statement M
+read-rounds-spec =
+    tie.close (tie.spec
+    Inv-loop μ-loop (need (tie.Need-loop-holds Inv-loop μ-loop) (λ c. search needs))
+    (need (tie.Need-read-round-requires Inv-loop μ-loop) (λ c κs. search needs)) (need (tie.Need-add-i Inv-loop μ-loop) (λ c. search needs))
+    (need (tie.Need-loop-less Inv-loop μ-loop) (λ c. search needs)) (need (tie.Need-loop-again Inv-loop μ-loop) (λ c. search needs))
+    (need (tie.Need-same-length Inv-loop μ-loop) (λ c. search needs)) (need (tie.Need-returns Inv-loop μ-loop) (λ c. search needs)))
