@@ -6,13 +6,14 @@ import kinds
 import lists
 from allowance import read_within, seen_of
 from answers import answer
+from packets import listed
 from reader import IDLE, Reader, said
 from states import BUFFER, COUNT, HEADING, READER, SETTINGS, WRITER, of_phase, to_numbers, to_reader, to_writer
 from words import VARIABLE, by_perl, by_python, byte_form, checksum, crc_of, crc_words, header, made, settings_by, word_of
 from writer import DONE, Writer
 
 STEPS = {"new", "open", "close", "words", "index", "data", "mix", "read", "view", "last", "at", "phase", "settings"}
-STEPS |= {"Put", "Tell", "Impossible", "Make", "Room", "Open", "Add", "Close", "Words", "Sum", "Header", "Line", "Batch", "under"}
+STEPS |= {"Put", "Tell", "Impossible", "Make", "Room", "Open", "Add", "Close", "Words", "Sum", "Header", "Line", "Batch", "under", "Gap", "Find"}
 
 
 class Register:
@@ -183,6 +184,20 @@ class Play:
         (finished, given), register = self.lent(length, lambda w, line: lists.add_list(w, words, line))
         self.seen.update(lists.met(before, length, words, finished, given))
         self.rows.append(["batched", finished, given, register])
+
+    def big_gap(self, length, did, second, count):
+        before = to_writer(self.scope, self.states[WRITER])
+        given, register = self.lent(length, lambda w, line: w.pack(did, second, self.room[:count], line))
+        self.seen["packed", before.system, before.mode, given] += 1
+        self.rows.append(["packed", given, register])
+
+    def big_find(self, length, system, mode, room):
+        lent = self.room[:room]
+        given = listed(self.scope, system, mode, self.line[:length], lent)
+        self.room[:room] = lent
+        self.seen["listed", system, given[0], given[4]] += 1
+        self.seen["packets", system, min(given[1], 3)] += 1
+        self.rows.append(["listed", *given, Register(lent)])
 
     def tell_call(self, name, before, given, register):
         system, mode = self.states[WRITER][:2]

@@ -7,6 +7,7 @@ import sys
 import bursts
 import courses
 import edges
+import gap
 import lines
 import lists
 import put
@@ -301,7 +302,8 @@ def script(scope):
     for part in drops, long_blocks, phases, mixes, fixed, fixed_later, jumps, refusals, unfit, impossible:
         part(book)
     # A new part stands behind all others, so that the steps and rows there are stay as they are.
-    for part in lines.PARTS + courses.PARTS + put.PARTS + edges.PARTS + reserved.PARTS + bursts.PARTS + running.PARTS + lists.PARTS + under.PARTS:
+    later = [lines, courses, put, edges, reserved, bursts, running, lists, under, gap]
+    for part in [part for module in later for part in module.PARTS]:
         part(book)
     return "".join(f"{step}\n" for step in book.steps)
 

@@ -18,6 +18,9 @@ def of_phase(phase):
     return [{"idle": 0, "type": 1, "count": 1 + len(values), "data": 6}[name], *values]
 
 
+USED = 65536  # the words used of the gap stand beside the writer's last number, so many times
+
+
 def to_numbers(state):
     """The numbers of a reader or a writer."""
     if isinstance(state, Reader):
@@ -26,7 +29,9 @@ def to_numbers(state):
         five = [0, 0, 0, 0] if state.rest is None else [1, *state.rest]
         five.append(state.crc)
     five += [0] * (5 - len(five))
-    return [state.system, state.mode, *held(state.last), *held(state.place), *five, *state.settings]
+    last = held(state.last)
+    last[1] += USED * getattr(state, "used", 0)
+    return [state.system, state.mode, *last, *held(state.place), *five, *state.settings]
 
 
 def fill(state, numbers):
@@ -48,4 +53,6 @@ def to_writer(scope, numbers):
     writer = fill(Writer(scope, *numbers[:2]), numbers)
     writer.rest = tuple(numbers[7:10]) if numbers[6] else None
     writer.crc = numbers[10]
+    writer.used = numbers[3] // USED
+    writer.last = numbers[3] % USED if numbers[2] else None
     return writer

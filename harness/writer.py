@@ -1,5 +1,6 @@
 """The writer of 01, written from 01 and not from our code."""
 from course import MOST, Course
+from packets import packet
 from words import ALL_ONES, FILLER, VARIABLE, block_words, byte_form, crc_words, opened_line, settings_fault, taken_on, word_of
 
 DONE, UNFINISHED = 0, 100
@@ -10,14 +11,20 @@ class Writer(Course):
 
     rest = None  # an unfinished block: type, n, words laid
     crc = ALL_ONES  # of the area words laid in this line
+    used = 0  # words of its gap in which packets stand
 
     def impossible(self):
-        if self.impossible_with(self.rest is not None) or self.crc > ALL_ONES:
+        if self.impossible_with(self.rest is not None) or self.crc > ALL_ONES or self.used > self.gap():
             return True
         if self.rest is None:
             return False
         _, n, laid = self.rest
         return n > MOST or not 1 <= laid <= n + 6
+
+    def gap(self):
+        """How many words the gap of a line has."""
+        length, payload, _ = self.scope.systems.get(self.system, (61, 0, 0))
+        return length - payload - 61
 
     def refused(self, line):
         """What each call is refused for first."""
@@ -37,7 +44,7 @@ class Writer(Course):
         if self.place is not None or (self.rest and (values != self.settings or number != self.next_number())):
             return 20
         line[:] = opened_line(self.scope, self.system, f, v, number, values)
-        self.last, self.settings, self.place, self.crc = number, values, 0, ALL_ONES
+        self.last, self.settings, self.place, self.crc, self.used = number, values, 0, ALL_ONES, 0
         return DONE
 
     def ill_shaped(self, kind, n):
@@ -80,6 +87,24 @@ class Writer(Course):
         laid += len(words)
         self.rest = None if laid == len(whole) else (kind, len(values), laid)
         return UNFINISHED if self.rest else DONE
+
+    def pack(self, did, second, values, line):
+        """02, Item 3: a packet in the gap."""
+        fault = self.refused(line)
+        if fault:
+            return fault
+        if any(v > 511 for v in values):
+            return 17
+        if len(values) > 255:
+            return 18
+        if self.place is None:
+            return 20
+        words = packet(did, second, values)
+        if self.used + len(words) > self.gap():
+            return 24
+        line[57 + self.used : 57 + self.used + len(words)] = words
+        self.used += len(words)
+        return DONE
 
     def close(self, line):
         fault = self.refused(line)

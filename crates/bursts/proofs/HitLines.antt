@@ -29,7 +29,7 @@ module _ (system mode : ℕ) where
 
   found-by : (d : Desk) (c : Call) (d′ : Desk) (ts : List Sent) → Does true d c d′ ts → DeskOk system mode d → DeskOk system mode d′ → (cs : List Call) (ss : List Sent)
       → All IsFound ss → All IsFound (ts ++ ss)
-  found-by d c _ _ (is-quiet w ws q) dk k cs ss more = more
+  found-by d c _ _ (is-quiet w qs ws q) dk k cs ss more = more
   found-by d _ _ _ (is-opened f v n t held lent e) dk k cs ss more = more
   found-by d _ _ _ (is-finished kind vs clear e) dk k cs ss more = more
   found-by d _ _ _ (is-unfinished kind vs clear e) dk k cs ss more = more

@@ -19,7 +19,7 @@ use Rattle.writer.specs.Filling.{joined}
 use Rattle.machine.specs.declared.phase.Phase.the-variants.{Idle}
 use Rattle.machine.specs.Phases.{isBusy}
 use Rattle.reader.specs.Jump.{jumpFrom}
-use Rattle.demands.specs.Sending.{Call, opens, adds, closes, Block, Piece, Sent, Desk, joinedPieces}
+use Rattle.demands.specs.Sending.{Call, opens, adds, packs, closes, Block, Piece, Sent, Desk, joinedPieces}
 use Rattle.demands.specs.Hearing.{Heard, is-refused, is-begun, is-block, is-end}
 use Rattle.demands.specs.Damage.{Fate, kept, removed, replaced, isKept, allOn, survivors}
 use Rattle.demands.proofs.Run.{Now, now, idle, runTo, runOut, placesTo, placesOut}
@@ -98,11 +98,13 @@ pub record Ahead (system mode cap : ℕ) (keeps : ℕ → Bool) (told gone : Boo
 abbrev pub RoomFor : ℕ → Call → Type 0
 RoomFor cap (opens f v n t held lent) = Unit {0}
 RoomFor cap (adds kind vs) = length vs ≤ most → length vs ≤ cap
+RoomFor cap (packs did second p q vs) = Unit {0}
 RoomFor cap closes = Unit {0}
 
 pub room-for : (cap : ℕ) → most ≤ cap → (c : Call) → RoomFor cap c
 room-for cap h (opens f v n t held lent) = tt
 room-for cap h (adds kind vs) = λ l. omega (arith, l, h)
+room-for cap h (packs did second p q vs) = tt
 room-for cap h closes = tt
 
 -- ---- the fates of the lines still to come

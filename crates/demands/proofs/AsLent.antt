@@ -17,10 +17,12 @@ use Rattle.writer.specs.State.{isPart, laidOf}
 use Rattle.writer.specs.Answers.{Left, Added}
 use Rattle.writer.specs.Opening.{opening}
 use Rattle.writer.specs.Adding.{adding}
+use Rattle.packets.specs.Packet.{Packet}
+use Rattle.writer.specs.Packing.{packing}
 use Rattle.writer.specs.Closing.{closing}
 use Rattle.writer.specs.Filling.{asLaid}
 use Rattle.writer.proofs.Pieces.{finished-clear}
-use Rattle.demands.specs.Sending.{Call, opens, adds, closes, Complete, Sent, Desk, start, valuesNow, pieceNow, openedBy, addedBy, closedBy, sendsBy, after, sends, sentBy, sentFresh, blocksOf}
+use Rattle.demands.specs.Sending.{Call, opens, adds, packs, closes, Complete, Sent, Desk, start, valuesNow, pieceNow, openedBy, addedBy, packsBy, closedBy, sendsBy, after, sends, sentBy, sentFresh, blocksOf}
 use Rattle.demands.specs.Lent.{Unchanged, finishedBy, openedWith, closedWith, lentBy, lentFresh}
 
 -- ---- the values as laid are those lent: of a new block, and of one lent again unchanged
@@ -45,6 +47,10 @@ added-blocks Finished x d kind vs h =
     ap (λ (l : List ℕ). d .now .blocks ++ (record { block = record { kind = kind; values = l }; pieces = d .pieces ++ (pieceNow d kind vs ∷ []) } ∷ [])) (sym (h refl))
 added-blocks Unfinished x d kind vs h = append-nil (d .now .blocks)
 
+packed-blocks : (a : Answer) (x : Left) (d : Desk) (p : Packet) → d .now .blocks ≡ packsBy a x d p .now .blocks
+packed-blocks (Refused k) x d p = refl
+packed-blocks Done x d p = refl
+
 closed-blocks : (a : Answer) (x : Left) (d : Desk) → d .now .blocks ≡ closedBy a x d .now .blocks
 closed-blocks (Refused k) x d = refl
 closed-blocks Done x d = refl
@@ -65,6 +71,10 @@ lent-is (adds kind vs ∷ cs) d u =
     let unchanged : x .answer ≡ Finished → valuesNow d vs ≡ vs =
     λ e. as-lent d vs (⊎-elim (λ w. inl w) (λ p. inr (u .0 (finished-clear (d .writer) (d .now .words) kind vs e) p)) (whole-or (d .writer .rest))) in
     ap (λ (bs : List Complete). lentBy (after d (adds kind vs)) bs cs) (added-blocks (x .answer) x d kind vs unchanged) ∙ lent-is cs (after d (adds kind vs)) (u .1)
+lent-is (packs did second p q vs ∷ cs) d u =
+    let x = packing (d .writer) (d .now .words) did second vs in
+    let c = packs did second p q vs in
+    ap (λ (bs : List Complete). lentBy (after d c) bs cs) (packed-blocks (x .answer) x d (record { did = did; second = second; values = vs })) ∙ lent-is cs (after d c) u
 lent-is (closes ∷ cs) d u =
     let x = closing (d .writer) (d .now .words) in
     ap (λ (bs : List Complete). closedWith (x .answer) (d .now .blocks) ++ bs)

@@ -21,10 +21,11 @@ use Rattle.writer.specs.declared.batch.Stop.the-variants.{Refused as Stopped}
 use Rattle.writer.specs.Answers.{Left, Added}
 use Rattle.writer.specs.Opening.{opening}
 use Rattle.writer.specs.Adding.{adding}
+use Rattle.writer.specs.Packing.{packing}
 use Rattle.writer.specs.Closing.{closing}
 use Rattle.writer.specs.Batch.{Entry, whole, broken, entriesOf, Batched, batched, behind, layAll, batchFault, batching}
 use Rattle.writer.proofs.BatchLaws.{entries-none, entries-one, entries-more}
-use Rattle.demands.specs.Sending.{Call, opens, adds, closes, Block, Sent, Desk, start, openedBy, addedBy, closedBy as deskClosed, sendsBy, after, sends, sentBy, sentFresh}
+use Rattle.demands.specs.Sending.{Call, opens, adds, packs, closes, Block, Sent, Desk, start, openedBy, addedBy, packsBy, closedBy as deskClosed, sendsBy, after, sends, sentBy, sentFresh}
 use Rattle.demands.specs.Damage.{Fate, kept, removed, replaced, remain}
 use Rattle.demands.specs.Hearing.{Heard, Reads}
 use Rattle.demands.specs.Running.{deskAfter}
@@ -140,6 +141,12 @@ module _ (d : Desk) where
       go (NotLaid k) = refl
       go Finished = refl
       go Unfinished = refl
+  single-now (packs did second p q vs) = go (packing (d .writer) (d .now .words) did second vs .answer)
+    where
+      go : (a : Answer) → now (packing (d .writer) (d .now .words) did second vs .state) (packing (d .writer) (d .now .words) did second vs .line)
+          ≡ nowOf (packsBy a (packing (d .writer) (d .now .words) did second vs) d (record { did = did; second = second; values = vs }))
+      go (Refused k) = refl
+      go Done = refl
   single-now closes = go (closing (d .writer) (d .now .words) .answer)
     where
       go : (a : Answer) → now (closing (d .writer) (d .now .words) .state) (closing (d .writer) (d .now .words) .line)
@@ -152,6 +159,7 @@ module _ (d : Desk) where
   unfolding closesBy sends
   single-lines (opens f v n t held lent) = refl
   single-lines (adds kind vs) = refl
+  single-lines (packs did second p q vs) = refl
   single-lines closes = go (closing (d .writer) (d .now .words) .answer)
     where
       go : (a : Answer) → closedBy a (closing (d .writer) (d .now .words) .line) ≡ map (λ (s : Sent). s .words) (sendsBy a (closing (d .writer) (d .now .words)) d)

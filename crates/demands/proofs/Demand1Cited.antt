@@ -1,7 +1,7 @@
 -- Each field of demand 1, cited at an instance that a weaker field would not give. The types are written out, as in DemandCited.antt. That a number
 -- is the lowest whose condition holds is given in two parts: its own condition, in the words of the crates below, and that no lower number's holds.
 -- Assumes nothing.
-use Prim.Native.Nat.{ℕ, _<_}
+use Prim.Native.Nat.{ℕ, _+_, _<_}
 use mathlib.Core.Bool.{Bool, true, false, _&&_, _||_, not}
 use mathlib.Core.Logic.{_⊎_, inr}
 use mathlib.Core.List.{List, [], _∷_, _++_, map}
@@ -28,6 +28,7 @@ use Rattle.writer.specs.State.{impossible, endIn}
 use Rattle.writer.specs.Answers.{answerNumbers, laidNumbers}
 use Rattle.writer.specs.Opening.{openBlocked, openFaults, opening}
 use Rattle.writer.specs.Adding.{valued, addFaults, adding}
+use Rattle.writer.specs.Packing.{packFaults, packing}
 use Rattle.writer.specs.Closing.{closeFaults, closing}
 use Rattle.writer.specs.Batch.{Entry, whole, stopNumbers, Batched, layAll, batchFaults, batching}
 use Rattle.writer.proofs.BatchLaws.{entries-one}
@@ -95,9 +96,9 @@ pub check-leaves-13 : (line : List ℕ) → checkedOf 1 9 line .fault ≡ 13 →
 check-leaves-13 line is = demand-1 .check-leaves 1 9 line 13 is (omega arith)
 
 -- ---- the writer of system 1 in 9-bit mode
--- after line 7, with 50 words laid of a block of type 5 with 100 values, and a CRC of 18 bits, right or wrong
+-- after line 7, with 50 words laid of a block of type 5 with 100 values, a CRC of 18 bits, right or wrong, and 100 words of the gap used
 abbrev pub halfway : Settings → Place → Writer
-halfway s place = record { system = 1; mode = 9; last = Number 7; settings = s; place = place; rest = Part 5 100 50; crc = 0x2A5A5 }
+halfway s place = record { system = 1; mode = 9; last = Number 7; settings = s; place = place; rest = Part 5 100 50; crc = 0x2A5A5; used = 100 }
 
 -- 20: a line is open
 pub open-20 : (s : Settings) (f v : Bool) (t : Settings) (line : List ℕ) → ((n : ℕ) → n < 20 → holdsAt n (openFaults (halfway s (At 3)) 8 t (length line)) ≡ false)
@@ -172,6 +173,33 @@ add-numbers w line kind vs = demand-1 .add-block w line kind vs .numbers
 pub add-leaves-17 : (s : Settings) (line : List ℕ) (kind : ℕ) (vs : List ℕ) → laidNumbers (adding (halfway s (At 3)) line kind vs .answer) ≡ 17 ∷ []
     → (adding (halfway s (At 3)) line kind vs .state ≡ halfway s (At 3)) × (adding (halfway s (At 3)) line kind vs .line ≡ line)
 add-leaves-17 s line kind vs is = demand-1 .add-leaves (halfway s (At 3)) line kind vs 17 is
+
+-- a packet. 20: none is open; 24: 100 words are used of 227
+pub pack-20 : (s : Settings) (line : List ℕ) (did second : ℕ) (vs : List ℕ) → ((n : ℕ) → n < 20 → holdsAt n (packFaults (halfway s Shut) (length line) vs) ≡ false)
+    → answerNumbers (packing (halfway s Shut) line did second vs .answer) ≡ 20 ∷ []
+pack-20 s line did second vs low = demand-1 .add-packet (halfway s Shut) line did second vs .gives 20 (record { holds = refl; lowest = low })
+
+pub pack-24-only : (s : Settings) (line : List ℕ) (did second : ℕ) (vs : List ℕ) → answerNumbers (packing (halfway s (At 3)) line did second vs .answer) ≡ 24 ∷ []
+    → (ltb 227 (100 + (length vs + 7)) ≡ true) × ((ltb 255 (length vs) ≡ false) × (fitsLength 1 9 (length line) ≡ true))
+pack-24-only s line did second vs is =
+    let x = demand-1 .add-packet (halfway s (At 3)) line did second vs .only 24 is in
+    (holds _ (x .holds), (or-false _ _ (x .lowest 18 (omega arith)) .0, stands _ (x .lowest 1 (omega arith))))
+
+pub pack-serves : (s : Settings) (line : List ℕ) (did second : ℕ) (vs : List ℕ) → ((n : ℕ) → holdsAt n (packFaults (halfway s (At 3)) (length line) vs) ≡ false)
+    → answerNumbers (packing (halfway s (At 3)) line did second vs .answer) ≡ []
+pack-serves s line did second vs none = demand-1 .add-packet (halfway s (At 3)) line did second vs .serves none
+
+pub pack-unless : (s : Settings) (line : List ℕ) (did second : ℕ) (vs : List ℕ) → answerNumbers (packing (halfway s (At 3)) line did second vs .answer) ≡ []
+    → ltb 227 (100 + (length vs + 7)) ≡ false
+pack-unless s line did second vs is = or-false _ _ (demand-1 .add-packet (halfway s (At 3)) line did second vs .unless is 24) .0
+
+pub pack-numbers : (w : Writer) (line : List ℕ) (did second : ℕ) (vs : List ℕ)
+    → map (λ (r : Refusal). r .number) (packFaults w (length line) vs) ≡ 1 ∷ 2 ∷ 17 ∷ 18 ∷ 20 ∷ 24 ∷ []
+pack-numbers w line did second vs = demand-1 .add-packet w line did second vs .numbers
+
+pub pack-leaves-24 : (s : Settings) (line : List ℕ) (did second : ℕ) (vs : List ℕ) → answerNumbers (packing (halfway s (At 3)) line did second vs .answer) ≡ 24 ∷ []
+    → (packing (halfway s (At 3)) line did second vs .state ≡ halfway s (At 3)) × (packing (halfway s (At 3)) line did second vs .line ≡ line)
+pack-leaves-24 s line did second vs is = demand-1 .pack-leaves (halfway s (At 3)) line did second vs 24 is
 
 -- 20: none is open; with one open, a word is left in its area
 pub close-20 : (s : Settings) (line : List ℕ) → ((n : ℕ) → n < 20 → holdsAt n (closeFaults (halfway s Shut) (length line)) ≡ false)

@@ -25,6 +25,8 @@ use Rattle.writer.specs.declared.state.Writer.{Writer}
 use Rattle.writer.specs.Answers.{answerNumbers, laidNumbers, Left, Added}
 use Rattle.writer.specs.Opening.{openFaults, openFault, opening}
 use Rattle.writer.specs.Adding.{addFaults, addFault, adding}
+use Rattle.writer.specs.Packing.{packFaults, packFault, packing}
+use Rattle.writer.proofs.Packs.{pack-rising, packs-numbered, pack-refused}
 use Rattle.writer.specs.Closing.{closeFaults, closeFault, closing}
 use Rattle.writer.specs.Numbers.{answersBy, allFits, laidBy}
 use Rattle.writer.specs.declared.state.Laid.{Laid}
@@ -149,6 +151,19 @@ open-left w f v n t line k e =
     let x = by-given (openFault w n t (length line)) k (sym (open-numbers w f v n t line) ∙ e) in
     let is = not-opened w f v n t line (openFault w n t (length line)) refl (λ z. omega (arith, x .0, x .1, z)) in
     (ap (λ (l : Left). l .state) (sym is), ap (λ (l : Left). l .line) (sym is))
+
+packs : (w : Writer) (line : List ℕ) (did second : ℕ) (vs : List ℕ)
+    → Numbered (packFaults w (length line) vs) (1 ∷ 2 ∷ 17 ∷ 18 ∷ 20 ∷ 24 ∷ []) (λ (k : ℕ). answerNumbers (packing w line did second vs .answer) ≡ k ∷ [])
+    (answerNumbers (packing w line did second vs .answer) ≡ [])
+unfolding packFault
+packs w line did second vs = answered (packFaults w (length line) vs) _ _ refl (pack-rising w (length line) vs) (packs-numbered w line did second vs (packing w line did second vs) refl .1)
+
+pack-left : (w : Writer) (line : List ℕ) (did second : ℕ) (vs : List ℕ) (k : ℕ) → answerNumbers (packing w line did second vs .answer) ≡ k ∷ []
+    → (packing w line did second vs .state ≡ w) × (packing w line did second vs .line ≡ line)
+pack-left w line did second vs k e =
+    let x = by-given (packFault w (length line) vs) k (sym (packs-numbered w line did second vs (packing w line did second vs) refl .1) ∙ e) in
+    let is = pack-refused w line did second vs (packFault w (length line) vs) refl (λ z. omega (arith, x .0, x .1, z)) in
+    (sym (ap (λ (y : Left). y .state) is), sym (ap (λ (y : Left). y .line) is))
 
 close-left : (w : Writer) (line : List ℕ) (k : ℕ) → answerNumbers (closing w line .answer) ≡ k ∷ [] → (closing w line .state ≡ w) × (closing w line .line ≡ line)
 close-left w line k e =
@@ -398,9 +413,11 @@ demand-1 = record {
   open-line = opens;
   add-block = adds;
   close-line = closes;
+  add-packet = packs;
   open-leaves = open-left;
   add-leaves = add-left;
   close-leaves = close-left;
+  pack-leaves = pack-left;
   read = reads;
   read-leaves = λ st line room k g h. leaves st line room (lowestOf (readRefusals st line room)) k (does st line room) g h;
   read-forgets = λ st line room k g h. forgets st line room (lowestOf (readRefusals st line room)) k (does st line room) g h;

@@ -38,6 +38,7 @@ use Rattle.demands.proofs.DeskOk.{DeskOk}
 use Rattle.demands.proofs.DeskAdds.{adds-say}
 use Rattle.demands.proofs.DeskCloses.{closes-say}
 use Rattle.demands.proofs.DeskStart.{ValuesOf, standing, standing-ok, standing-some, start-ok}
+use Rattle.demands.proofs.Listed.{listed-hold, relists}
 use Rattle.demands.proofs.DeskDoes.{Does, is-quiet, is-opened, is-finished, is-unfinished, is-closed}
 use Rattle.demands.proofs.DeskLaws.{along}
 use Rattle.demands.proofs.Ahead.{blocksHeard, Ahead, RoomFor, room-for, Agrees, Noticed, Tells, nothing-more, one-kept, one-removed, one-replaced}
@@ -84,7 +85,7 @@ module _ (system mode : ℕ) where
 
   lines-by : (d : Desk) (c : Call) (d′ : Desk) (ts : List Sent) → Does true d c d′ ts → DeskOk system mode d → DeskOk system mode d′ → (cs : List Call) (ss : List Sent)
       → All (IsLine system) ss → All (IsLine system) (ts ++ ss)
-  lines-by d c _ _ (is-quiet w ws q) dk k cs ss more = more
+  lines-by d c _ _ (is-quiet w qs ws q) dk k cs ss more = more
   lines-by d _ _ _ (is-opened f v n t held lent e) dk k cs ss more = more
   lines-by d _ _ _ (is-finished kind vs clear e) dk k cs ss more = more
   lines-by d _ _ _ (is-unfinished kind vs clear e) dk k cs ss more = more
@@ -96,7 +97,7 @@ module _ (system mode : ℕ) where
   blocks-by : (d : Desk) (c : Call) (d′ : Desk) (ts : List Sent) → Does true d c d′ ts → DeskOk system mode d → DeskOk system mode d′ → (cs : List Call) (ss : List Sent)
       → (Blocks d′ → All (HasBlocks mode) ss) → Blocks d → All (HasBlocks mode) (ts ++ ss)
   unfolding Blocks
-  blocks-by d c _ _ (is-quiet w ws q) dk k cs ss more h = more h
+  blocks-by d c _ _ (is-quiet w qs ws q) dk k cs ss more h = more h
   blocks-by d _ _ _ (is-opened f v n t held lent e) dk k cs ss more h = more (tt, h .1)
   blocks-by d _ _ _ (is-finished kind vs clear e) dk k cs ss more h =
       let a = adds-say system mode d kind vs dk clear in
@@ -183,7 +184,7 @@ take-min a l =
 pub demand-2 : Demand2
 demand-2 = record {
   lines = λ system mode cs. any-lines (fresh-writer system mode) [] (fresh-possible system mode) refl tt cs;
-  any-line = λ w f v n t lent w′ line ps held c. written w f v n t lent w′ line ps held c .is;
+  any-line = λ w f v n t lent w′ line ps qs held c. written w f v n t lent w′ line ps qs held c .is;
   writable = λ system mode f v n t bs known moded one last held clean passes. all-written system mode f v t held known moded clean n bs one last passes;
   closable = λ w line fit possible held at. can-be-closed w line fit possible at held;
   blocks = λ system mode cs. any-blocks (fresh-writer system mode) [] (fresh-possible system mode) refl tt cs;
@@ -200,5 +201,7 @@ demand-2 = record {
       (subst (λ (ls : List (List ℕ)). Reads (fresh system mode) room ls hs) (sym (kept-remain ss)) r))
       refl refl;
   readable = λ system mode cs room. readable (fresh system mode) room (map (λ (s : Sent). s .words) (sentFresh system mode cs)) refl;
+  listed-back = λ system mode cs. listed-hold system mode cs (start system mode) (start-ok system mode);
+  relisted = relists;
   rewritten = written-again;
 }

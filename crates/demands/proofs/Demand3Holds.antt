@@ -53,7 +53,7 @@ module _ (system mode : ℕ) (keeps : ℕ → Bool) where
   lost-by : (d : Desk) (c : Call) (d′ : Desk) (ts : List Sent) → Does true d c d′ ts → DeskOk system mode d → DeskOk system mode d′ → (cs : List Call) (ss : List Sent)
       → (NowLost d′ → AllLost keeps (d′ .closed) ss) → NowLost d → AllLost keeps (d .closed) (ts ++ ss)
   unfolding NowLost
-  lost-by d c _ _ (is-quiet w ws q) dk k cs ss more h = more (λ at. h (sym (ap isAt (q .place)) ∙ at))
+  lost-by d c _ _ (is-quiet w qs ws q) dk k cs ss more h = more (λ at. h (sym (ap isAt (q .place)) ∙ at))
   lost-by d _ _ _ (is-opened f v n t held lent e) dk k cs ss more h = more (λ at i. refl)
   lost-by d _ _ _ (is-finished kind vs clear e) dk k cs ss more h =
       more

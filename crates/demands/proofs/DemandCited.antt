@@ -40,6 +40,8 @@ use Rattle.writer.specs.Block.{wordsIn}
 use Rattle.writer.specs.Opening.{opening}
 use Rattle.writer.specs.Adding.{addFault}
 use Rattle.writer.specs.Closing.{closing}
+use Rattle.packets.specs.Packet.{Packet, packed, flat}
+use Rattle.packets.specs.Listing.{gapOf, Outcome, listing}
 use Rattle.writer.specs.Filling.{Filling, Written, areaFrom, pieceOf, joined, asLaid}
 use Rattle.writer.proofs.Keeps.{open-clear, open-leaves}
 use Rattle.writer.proofs.Refusals.{can-open}
@@ -58,7 +60,7 @@ use Rattle.demands.specs.Lent.{Unchanged, lentFresh}
 use Rattle.demands.specs.Writable.{OpenedWith, NumbersFrom, Packed, Writes, TypeHeld, Closable}
 use Rattle.demands.specs.Hearing.{Heard, is-refused, is-begun, is-block, is-end, Lends, Reads, Readable, handedOut}
 use Rattle.demands.specs.Damage.{Fate, remain, RefusedIfReplaced, longestRun, keptAt, survivors}
-use Rattle.demands.specs.Demand2.{IsLine, HasBlocks, StandsOn, IsPlaced, givenBack}
+use Rattle.demands.specs.Demand2.{IsLine, IsListed, HasBlocks, StandsOn, IsPlaced, givenBack}
 use Rattle.demands.specs.Demand3.{Consecutive, Transmission}
 use Rattle.demands.specs.Running.{deskAfter}
 use Rattle.demands.proofs.Unrefused.{fits-by, open-long}
@@ -69,19 +71,19 @@ use Rattle.demands.proofs.RunningHolds.{running}
 -- ---- demand 2
 -- `lines`: the first line of system 1 in 8-bit mode, and the second of system 3 in 9-bit mode
 pub lines-1-8 : (cs : List Call) (s : Sent) (ss : List Sent) → sentFresh 1 8 cs ≡ s ∷ ss
-    → s .words ≡ lineWords (systemOf 1) (s .f) (s .v) (s .number) (s .settings) [] (areaFrom 1440 (s .settings .flag) (s .pieces))
+    → s .words ≡ lineWords (systemOf 1) (s .f) (s .v) (s .number) (s .settings) (packed (s .packets)) (areaFrom 1440 (s .settings .flag) (s .pieces))
 lines-1-8 cs s ss e = subst (All (IsLine 1)) e (demand-2 .lines 1 8 cs) .0
 
 pub lines-3-9 : (cs : List Call) (r s : Sent) (ss : List Sent) → sentFresh 3 9 cs ≡ r ∷ s ∷ ss
-    → s .words ≡ lineWords (systemOf 3) (s .f) (s .v) (s .number) (s .settings) [] (areaFrom 1920 (s .settings .flag) (s .pieces))
+    → s .words ≡ lineWords (systemOf 3) (s .f) (s .v) (s .number) (s .settings) (packed (s .packets)) (areaFrom 1920 (s .settings .flag) (s .pieces))
 lines-3-9 cs r s ss e = subst (All (IsLine 3)) e (demand-2 .lines 3 9 cs) .1 .0
 
 -- `any-line`: with flag 01h
-pub any-line-guarded : (w : Writer) (f v : Bool) (n : ℕ) (t : Settings) (lent : List ℕ) (w′ : Writer) (line : List ℕ) (ps : List (List ℕ)) → Held t
-    → t .flag ≡ 1 → Written w f v n t lent w′ line ps → line ≡ lineWords (systemOf (w .system)) f v n t [] (areaFrom (systemOf (w .system) .payload) 1 ps)
-any-line-guarded w f v n t lent w′ line ps held flag c =
-    demand-2 .any-line w f v n t lent w′ line ps held c
-    ∙ ap (λ (x : ℕ). lineWords (systemOf (w .system)) f v n t [] (areaFrom (systemOf (w .system) .payload) x ps)) flag
+pub any-line-guarded : (w : Writer) (f v : Bool) (n : ℕ) (t : Settings) (lent : List ℕ) (w′ : Writer) (line : List ℕ) (ps : List (List ℕ)) (qs : List Packet) → Held t
+    → t .flag ≡ 1 → Written w f v n t lent w′ line ps qs → line ≡ lineWords (systemOf (w .system)) f v n t (packed qs) (areaFrom (systemOf (w .system) .payload) 1 ps)
+any-line-guarded w f v n t lent w′ line ps qs held flag c =
+    demand-2 .any-line w f v n t lent w′ line ps qs held c
+    ∙ ap (λ (x : ℕ). lineWords (systemOf (w .system)) f v n t (packed qs) (areaFrom (systemOf (w .system) .payload) x ps)) flag
 
 -- `writable`: in a variable line of system 3 and 9-bit mode, from the last number on, two blocks, one of the most values that there may be
 pub writes-3-9 : (t : Settings) (vs us : List ℕ) → Held t → settingsFault 3 t ≡ 0 → t .block ≡ 0xC1 → All (λ (x : ℕ). x < 512) vs → length vs ≡ 16384
@@ -125,7 +127,7 @@ pub record Closed (w : Writer) (f v : Bool) (n : ℕ) (t : Settings) (lent : Lis
   pub w′ : Writer
   pub line : List ℕ
   pub pieces : List (List ℕ)
-  pub written : Written w f v n t lent w′ line pieces
+  pub written : Written w f v n t lent w′ line pieces []
 
 closed-by : (w : Writer) (f v : Bool) (n : ℕ) (t : Settings) (lent : List ℕ) → opening w f v n t lent .answer ≡ Done
     → Closable (opening w f v n t lent .state) (opening w f v n t lent .line) → Closed w f v n t lent
@@ -147,7 +149,7 @@ closed-again w f v n t lent held kind many j r small done =
     closed-by w f v n t lent done
     (demand-2 .closable (x .state) (x .line)
     (ap₂ (λ (s m : ℕ). fitsLength s m (length (x .line))) (o .of-system) (o .of-mode)
-    ∙ fits-by (w .system) (w .mode) (length (x .line)) (can .known) (can .moded) (open-long (w .system) (w .mode) f v n t [] (x .state) (x .line) held (can .known) o))
+    ∙ fits-by (w .system) (w .mode) (length (x .line)) (can .known) (can .moded) (open-long (w .system) (w .mode) f v n t [] [] (x .state) (x .line) held (can .known) o))
     (open-possible w f v n t lent (can .state)) (subst TypeHeld (sym (ap (λ (y : Left). y .state .rest) (open-leaves w f v n t lent clear) ∙ r)) small) (ap isAt (o .of-place)))
 
 -- `blocks`: the second block of the second line, laid in two pieces, in a 625-line system and 9-bit mode
@@ -287,12 +289,30 @@ kept-none a b shut =
     running .kept 1 8 (a ∷ b ∷ []) ∙ ap (λ (p : Place). crcOf 262143 (take (placeOf p) (drop 288 (d .now .words)))) shut ∙ crc-none 262143 (lit< tt)
 
 -- `any-line`: with flag 00h, whatever number was stored before
-pub any-kept : (w : Writer) (f v : Bool) (n : ℕ) (t : Settings) (lent : List ℕ) (w′ : Writer) (line : List ℕ) (ps : List (List ℕ)) → Held t → t .flag ≡ 0
-    → opening w f v n t lent .answer ≡ Done → Filling (opening w f v n t lent .state) (opening w f v n t lent .line) w′ line ps → w .system ≡ 2 → w′ .place ≡ At 7
+pub any-kept : (w : Writer) (f v : Bool) (n : ℕ) (t : Settings) (lent : List ℕ) (w′ : Writer) (line : List ℕ) (ps : List (List ℕ)) (qs : List Packet) → Held t → t .flag ≡ 0
+    → opening w f v n t lent .answer ≡ Done → Filling (opening w f v n t lent .state) (opening w f v n t lent .line) w′ line ps qs → w .system ≡ 2 → w′ .place ≡ At 7
     → w′ .crc ≡ crcOf 262143 (take 7 (drop 368 line))
-any-kept w f v n t lent w′ line ps held flag done calls system at =
-    running .any-line w f v n t lent w′ line ps held done calls
+any-kept w f v n t lent w′ line ps qs held flag done calls system at =
+    running .any-line w f v n t lent w′ line ps qs held done calls
     ∙ ap₂ (λ (s : ℕ) (p : Place). crcOf 262143 (part (payloadAt (systemOf s)) (placeOf p) line)) system at
+
+-- `listed-back`: of the second line of a 625-line system, whatever words are lent for the list
+pub listed-3-9 : (cs : List Call) (r s : Sent) (ss : List Sent) (out : List ℕ) → sentFresh 3 9 cs ≡ r ∷ s ∷ ss → length out ≡ 323
+    → listing 3 9 (s .words) out
+    ≡ record {
+      answer = record { fault = 0; packets = length (s .packets); words = length (flat (s .packets)); gap = length (packed (s .packets)); stop = 0 };
+      out = flat (s .packets) ++ drop (length (flat (s .packets))) out;
+    }
+listed-3-9 cs r s ss out e long = subst (All (IsListed 3 9)) e (demand-2 .listed-back 3 9 cs) .1 .0 out long
+
+-- `relisted`: of an accepted line of system 1, where a bad packet ended the list
+pub relisted-1-8 : (line out : List ℕ) → lineFault 1 8 line ≡ 0 → length out ≡ 227 → listing 1 8 line out .answer .stop ≡ 23
+    → let x = demand-2 .relisted 1 8 line out in (clean : lineFault 1 8 line ≡ 0) (long : length out ≡ 227)
+    → (x clean long .stop ≡ 23) × (packed (x clean long .packets) ≡ take (length (packed (x clean long .packets))) (take 227 (drop 57 line)))
+unfolding gapOf
+relisted-1-8 line out c l e clean long =
+    let x = demand-2 .relisted 1 8 line out clean long in
+    (sym (ap (λ (o : Outcome). o .answer .stop) (x .listed)) ∙ e, x .again)
 
 -- ---- demand 3
 -- `handed`: of a 625-line system, in both modes, from no more than the four conditions

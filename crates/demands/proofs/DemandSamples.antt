@@ -28,6 +28,7 @@ use Rattle.writer.specs.Block.{wordsIn}
 use Rattle.writer.specs.Answers.{answerNumbers, laidNumbers}
 use Rattle.writer.specs.Opening.{openBlocked, openFault, openWords, opening}
 use Rattle.writer.specs.Adding.{valued, illShaped, addFault, adding}
+use Rattle.writer.specs.Packing.{packing}
 use Rattle.writer.specs.Closing.{closeFault, sealed, closing}
 use Rattle.writer.specs.Batch.{entriesIn, entriesOf, layAll, batchFault, batching}
 use Rattle.writer.specs.Filling.{pieceOf}
@@ -35,7 +36,7 @@ use Rattle.reader.specs.declared.jump.Jump.the-variants.{Unknown as NotKnown, K
 use Rattle.reader.specs.State.{capacity, fresh}
 use Rattle.reader.specs.Jump.{folded}
 use Rattle.demands.specs.All.{All}
-use Rattle.demands.specs.Sending.{Call, opens, adds, closes, Block, Piece, Complete, Sent, Desk, start, after, sends, sentBy, sentFresh, blocksOf}
+use Rattle.demands.specs.Sending.{Call, opens, adds, packs, closes, Block, Piece, Complete, Sent, Desk, start, after, sends, sentBy, sentFresh, blocksOf}
 use Rattle.demands.specs.Lent.{Unchanged, lentBy, lentFresh}
 use Rattle.demands.specs.Hearing.{Heard, is-begun, is-block, is-end, Reads, handedOut}
 use Rattle.demands.specs.Damage.{Fate, kept, removed, replaced, remain, RefusedIfReplaced, longestRun, keptAt, survivors}
@@ -76,6 +77,7 @@ sent system mode cs = sentFresh system mode cs
 answerOf : Desk → Call → List ℕ
 answerOf d (opens f v n t h lent) = answerNumbers (opening (d .writer) f v n t lent .answer)
 answerOf d (adds kind vs) = laidNumbers (adding (d .writer) (d .now .words) kind vs .answer)
+answerOf d (packs did second p q vs) = answerNumbers (packing (d .writer) (d .now .words) did second vs .answer)
 answerOf d closes = answerNumbers (closing (d .writer) (d .now .words) .answer)
 
 answersBy : Desk → List Call → List (List ℕ)

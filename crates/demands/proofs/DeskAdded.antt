@@ -14,6 +14,7 @@ use Rattle.writer.specs.declared.state.Laid.the-variants.{Finished, Unfinished}
 use Rattle.writer.specs.State.{isPart, laidOf}
 use Rattle.writer.specs.Answers.{Added}
 use Rattle.writer.specs.Adding.{addFault, todo, fitting, lay, adding}
+use Rattle.packets.specs.Packet.{packed}
 use Rattle.writer.specs.Filling.{pieceOf, joined}
 use Rattle.writer.proofs.BlockLaws.{fixed-long}
 use Rattle.writer.proofs.Keeps.{add-leaves}
@@ -97,15 +98,15 @@ module _ (system mode : ℕ) (d : Desk) (kind : ℕ) (vs : List ℕ) (ok : DeskO
   x = adding (d .writer) (d .now .words) kind vs
 
   -- the line is open still, with one piece more
-  line-now : Open system mode (d .now .f) (d .now .v) (d .now .number) (d .now .settings) (joined (d .now .pieces ++ (pieceOf (d .writer) (d .now .words) kind vs ∷ [])))
+  line-now : Open system mode (d .now .f) (d .now .v) (d .now .number) (d .now .settings) (packed (d .now .packets)) (joined (d .now .pieces ++ (pieceOf (d .writer) (d .now .words) kind vs ∷ [])))
       (x .state) (x .line)
   line-now =
       let o = now-open system mode d kind vs ok clear in
       let p = pieceOf (d .writer) (d .now .words) kind vs in
       let more : joined (d .now .pieces ++ (p ∷ [])) ≡ joined (d .now .pieces) ++ p =
       joined-append (d .now .pieces) (p ∷ []) ∙ ap (λ (l : List ℕ). joined (d .now .pieces) ++ l) (append-nil p) in
-      subst (λ (l : List ℕ). Open system mode (d .now .f) (d .now .v) (d .now .number) (d .now .settings) l (x .state) (x .line)) (sym more)
-      (laid-on system mode (d .now .f) (d .now .v) (d .now .number) (d .now .settings) (o .openable .held) (o .openable .known) (o .openable .row) (o .openable .clean) (joined (d .now .pieces)) (d .writer)
+      subst (λ (l : List ℕ). Open system mode (d .now .f) (d .now .v) (d .now .number) (d .now .settings) (packed (d .now .packets)) l (x .state) (x .line)) (sym more)
+      (laid-on system mode (d .now .f) (d .now .v) (d .now .number) (d .now .settings) (o .openable .held) (o .openable .known) (o .openable .row) (o .openable .clean) (packed (d .now .packets)) (joined (d .now .pieces)) (d .writer)
       (d .now .words) (o .is-open) kind vs clear)
 
   piece-long : isVariable (d .now .settings .block) ≡ false → length (pieceOf (d .writer) (d .now .words) kind vs) ≡ sizeOf (d .now .settings .block)
@@ -119,6 +120,7 @@ module _ (system mode : ℕ) (d : Desk) (kind : ℕ) (vs : List ℕ) (ok : DeskO
       record {
         is-open = line-now;
         openable = o .openable;
+        sound = o .sound;
         last-is = ap (λ (y : Added). y .state .last) (leaves mode d kind vs (ok .owes) clear) ∙ o .last-is;
         placed = λ v.
             all-more (λ (l : List ℕ). length l ≡ sizeOf (d .now .settings .block)) (d .now .pieces) (pieceOf (d .writer) (d .now .words) kind vs) (o .placed v) (piece-long v);

@@ -3,7 +3,7 @@
 use mathlib.Core.Path.{_≡_, refl, sym, ap, ap₂, _∙_, subst}
 use mathlib.Core.Bool.{Bool, true, false}
 use mathlib.Core.List.{List, [], _∷_, _++_, append-assoc}
-use Prim.Native.Nat.{ℕ}
+use Prim.Native.Nat.{ℕ, _<_}
 use native.Mathlib.Omega.{arith}
 use lib.ListN.{length}
 use Rattle.lists.specs.Tests.{pick}
@@ -24,10 +24,13 @@ use Rattle.writer.specs.State.{isPart}
 use Rattle.writer.specs.Answers.{laidNumbers, Added}
 use Rattle.writer.specs.Opening.{opening}
 use Rattle.writer.specs.Adding.{addFault, adding}
+use Rattle.writer.specs.Packing.{packing}
 use Rattle.writer.specs.Closing.{closing}
 use Rattle.writer.specs.Filling.{joined}
 use Rattle.writer.proofs.Keeps.{open-keeps, close-keeps, add-stays, add-leaves}
-use Rattle.demands.specs.Sending.{opens, adds, closes, Piece, Complete, Sent, Desk, openedBy, with, pieceNow, addedBy, closedBy, after, joinedPieces}
+use Rattle.packets.specs.Packet.{Packet}
+use Rattle.writer.proofs.Packs.{pack-keeps}
+use Rattle.demands.specs.Sending.{opens, adds, packs, closes, withPackets, packsBy, Piece, Complete, Sent, Desk, openedBy, with, pieceNow, addedBy, closedBy, after, joinedPieces}
 use Rattle.demands.proofs.DeskOk.{Owes, DeskOk}
 
 -- ---- joined
@@ -58,9 +61,9 @@ module _ (d : Desk) (f v : Bool) (n : ℕ) (t : Settings) (held : Held t) (lent 
       (open-keeps (d .writer) f v n t lent k e .0)
 
 -- ---- adding
--- the desk with another state, and other words of the line opened last
-abbrev pub moves : Desk → Writer → List ℕ → Desk
-moves d w ws = record { writer = w; now = with (d .now) (d .now .pieces) (d .now .blocks) ws; closed = d .closed; values = d .values; pieces = d .pieces }
+-- the desk with another state, and other packets and words of the line opened last
+abbrev pub moves : Desk → Writer → List Packet → List ℕ → Desk
+moves d w qs ws = record { writer = w; now = withPackets (d .now) qs ws; closed = d .closed; values = d .values; pieces = d .pieces }
 
 -- the desk behind an accepted addition: a piece more on the line, these blocks finished on it, and of an unfinished block these values and pieces
 abbrev pub laidDesk : Desk → ℕ → List ℕ → List Complete → List ℕ → List Piece → Desk
@@ -96,7 +99,22 @@ module _ (d : Desk) (kind : ℕ) (vs : List ℕ) where
   add-refused-same k e =
       let s = add-stays (d .writer) (d .now .words) kind vs (refused-fault k e) in
       ap (λ (a : Laid). addedBy a x d kind vs) e
-      ∙ ap₂ (moves d) (ap (λ (y : Added). y .state) s) (ap (λ (y : Added). y .line) s)
+      ∙ ap₂ (λ (w : Writer) (l : List ℕ). moves d w (d .now .packets) l) (ap (λ (y : Added). y .state) s) (ap (λ (y : Added). y .line) s)
+
+-- ---- packing
+module _ (d : Desk) (did second : ℕ) (p : did < 256) (q : second < 256) (vs : List ℕ) where
+  pub after-packed : packing (d .writer) (d .now .words) did second vs .answer ≡ Done
+      → let x = packing (d .writer) (d .now .words) did second vs in
+      after d (packs did second p q vs) ≡ moves d (x .state) (d .now .packets ++ (record { did = did; second = second; values = vs } ∷ [])) (x .line)
+  unfolding after
+  after-packed e = ap (λ (a : Answer). packsBy a (packing (d .writer) (d .now .words) did second vs) d (record { did = did; second = second; values = vs })) e
+
+  pub pack-refused-same : (k : ℕ) → packing (d .writer) (d .now .words) did second vs .answer ≡ Refused k → after d (packs did second p q vs) ≡ d
+  unfolding after
+  pack-refused-same k e =
+      let z = pack-keeps (d .writer) (d .now .words) did second vs k e in
+      ap (λ (a : Answer). packsBy a (packing (d .writer) (d .now .words) did second vs) d (record { did = did; second = second; values = vs })) e
+      ∙ ap₂ (λ (w : Writer) (l : List ℕ). moves d w (d .now .packets) l) (z .0) (z .1)
 
 -- ---- closing
 module _ (d : Desk) where
@@ -108,7 +126,7 @@ module _ (d : Desk) where
   unfolding after
   close-refused-same k e =
       let z = close-keeps (d .writer) (d .now .words) k e in
-      ap (λ (a : Answer). closedBy a (closing (d .writer) (d .now .words)) d) e ∙ ap₂ (moves d) (z .0) (z .1)
+      ap (λ (a : Answer). closedBy a (closing (d .writer) (d .now .words)) d) e ∙ ap₂ (λ (w : Writer) (l : List ℕ). moves d w (d .now .packets) l) (z .0) (z .1)
 
 -- ---- what holds of the desk, by the system and the mode of its state
 pub own : (system mode : ℕ) (d : Desk) → DeskOk system mode d → DeskOk (d .writer .system) (d .writer .mode) d

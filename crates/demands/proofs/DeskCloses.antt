@@ -26,6 +26,7 @@ use Rattle.writer.specs.State.{isPart, endIn, moved}
 use Rattle.writer.specs.Answers.{Left, left}
 use Rattle.writer.specs.Adding.{isFull}
 use Rattle.writer.specs.Closing.{sealed, closing}
+use Rattle.packets.specs.Packet.{packed}
 use Rattle.writer.specs.Filling.{joined}
 use Rattle.writer.proofs.Keeps.{close-clear, close-leaves}
 use Rattle.writer.proofs.Refusals.{Begun, begun, CanClose, can-close}
@@ -125,10 +126,13 @@ closes-say system mode d ok done =
     record {
       is =
           closed-line system mode (d .now .f) (d .now .v) (d .now .number) t (a .held) (a .known) (a .moded) (a .row) (a .clean) (a .one)
-          (a .most-lines) (d .now .pieces) (d .writer) (d .now .words) (o .is-open) done;
+          (a .most-lines) (packed (d .now .packets)) (d .now .pieces) (d .writer) (d .now .words) (o .is-open) done;
       accepts =
           closed-accepted system mode (d .now .f) (d .now .v) (d .now .number) t (a .held) (a .known) (a .moded) (a .row) (a .clean) (a .one)
-          (a .most-lines) (d .now .pieces) (d .writer) (d .now .words) (o .is-open) done;
+          (a .most-lines) (packed (d .now .packets)) (d .now .pieces) (d .writer) (d .now .words) (o .is-open) done;
+      held = a .held;
+      holds = o .is-open .holds;
+      sound = o .sound;
       last-is = o .last-is;
       settings-are = o .is-open .of-settings;
       state-last = ap (λ (x : Left). x .state .last) e;

@@ -12,7 +12,7 @@ use Rattle.demands.proofs.DeskCloses.{closed-ok}
 
 -- ---- each call, by what it does
 ok-by : (system mode : ℕ) (told : Bool) (d : Desk) (c : Call) (d′ : Desk) (ts : List Sent) → Does told d c d′ ts → DeskOk system mode d → DeskOk system mode d′
-ok-by system mode told d c _ _ (is-quiet w ws q) ok = quiet-ok system mode told d w ws q ok
+ok-by system mode told d c _ _ (is-quiet w qs ws q) ok = quiet-ok system mode told d w qs ws q ok
 ok-by system mode told d _ _ _ (is-opened f v n t held lent e) ok = opened-ok system mode d f v n t lent held ok e
 ok-by system mode told d _ _ _ (is-finished kind vs clear e) ok = finished-ok system mode d kind vs ok clear e
 ok-by system mode told d _ _ _ (is-unfinished kind vs clear e) ok = unfinished-ok system mode d kind vs ok clear e

@@ -14,6 +14,8 @@ use Rattle.words.specs.Modes.{isMode}
 use Rattle.course.specs.declared.Last.the-variants.{Number}
 use Rattle.course.specs.Course.{isAt}
 use Rattle.writer.specs.declared.state.Rest.the-variants.{NoBlock, Part}
+use Rattle.packets.specs.Packet.{packed}
+use Rattle.packets.proofs.ListLaws.{AllSound}
 use Rattle.writer.specs.State.{impossible}
 use Rattle.writer.specs.Adding.{valued}
 use Rattle.writer.specs.Block.{blockWords}
@@ -38,9 +40,10 @@ pub record Openable (system mode n : ℕ) (t : Settings) : Type 0 where
 
 -- an open line: its words, and what it was opened with
 pub record OpenNow (system mode : ℕ) (d : Desk) : Type 0 where
-  pub is-open : Open system mode (d .now .f) (d .now .v) (d .now .number) (d .now .settings) (joined (d .now .pieces)) (d .writer) (d .now .words)
+  pub is-open : Open system mode (d .now .f) (d .now .v) (d .now .number) (d .now .settings) (packed (d .now .packets)) (joined (d .now .pieces)) (d .writer) (d .now .words)
   pub openable : Openable system mode (d .now .number) (d .now .settings)
   pub last-is : d .writer .last ≡ Number (d .now .number)
+  pub sound : AllSound (d .now .packets)
   -- a fixed line has whole places
   pub placed : isVariable (d .now .settings .block) ≡ false → AllLong (sizeOf (d .now .settings .block)) (d .now .pieces)
 

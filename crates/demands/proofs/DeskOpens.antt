@@ -59,6 +59,7 @@ module _ (d : Desk) (f v : Bool) (n : ℕ) (t : Settings) (lent : List ℕ) (don
           is-open = line;
           openable = record { held = held; known = finds .known; moded = finds .moded; row = finds .row; clean = finds .clean; one = finds .one; most-lines = finds .last };
           last-is = own-opens .last;
+          sound = tt;
           placed = λ fixed. tt;
         };
         owes = owes-stays (d .writer .mode) d (opening (d .writer) f v n t lent .state) _ (d .closed) (line .of-mode) (own-opens .rest)

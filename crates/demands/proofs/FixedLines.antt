@@ -45,7 +45,7 @@ module _ (system mode : ℕ) where
   fixed-by : (d : Desk) (c : Call) (d′ : Desk) (ts : List Sent) → Does true d c d′ ts → DeskOk system mode d → DeskOk system mode d′ → (cs : List Call) (ss : List Sent)
       → (Even d′ → All IsFixed ss) → Even d → All IsFixed (ts ++ ss)
   unfolding Even
-  fixed-by d c _ _ (is-quiet w ws q) dk k cs ss more h = more (λ at. h (sym (ap isAt (q .place)) ∙ at))
+  fixed-by d c _ _ (is-quiet w qs ws q) dk k cs ss more h = more (λ at. h (sym (ap isAt (q .place)) ∙ at))
   fixed-by d _ _ _ (is-opened f v n t held lent e) dk k cs ss more h = more (λ at fixed. refl)
   fixed-by d _ _ _ (is-finished kind vs clear e) dk k cs ss more h =
       more

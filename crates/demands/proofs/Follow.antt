@@ -173,8 +173,8 @@ module _ (system mode cap : ℕ) (keeps : ℕ → Bool) (told : Bool) where
 
   goal-by : (d : Desk) (c : Call) (d′ : Desk) (ts : List Sent) → Does told d c d′ ts → DeskOk system mode d → DeskOk system mode d′ → (cs : List Call) (ss : List Sent)
       → Goal d′ cs ss → Goal d (c ∷ cs) (ts ++ ss)
-  goal-by d c _ _ (is-quiet w ws q) dk k cs ss ih r fs gone ear agrees refusing long noticed a =
-      ih (r .1) fs gone ear agrees refusing long noticed (quiet-ahead system mode cap keeps told gone d ear w ws q a)
+  goal-by d c _ _ (is-quiet w qs ws q) dk k cs ss ih r fs gone ear agrees refusing long noticed a =
+      ih (r .1) fs gone ear agrees refusing long noticed (quiet-ahead system mode cap keeps told gone d ear w qs ws q a)
   goal-by d _ _ _ (is-opened f v n t held lent e) dk k cs ss ih r fs gone ear agrees refusing long noticed a =
       let o = opens-say system mode d f v n t lent dk e in
       let now = k .opened (ap isAt (o .place)) in

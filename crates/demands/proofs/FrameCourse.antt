@@ -39,6 +39,7 @@ use Rattle.writer.specs.Opening.{openBlocked, openFault, openWords}
 use Rattle.writer.specs.Adding.{valued, illShaped, isFull, isOther, addFault, todo, fitting, adding}
 use Rattle.writer.specs.Closing.{closeFault, closing}
 use Rattle.writer.proofs.Refusals.{clear-open}
+use Rattle.packets.specs.Packet.{packed}
 use Rattle.writer.specs.Filling.{pieceOf, joined, asLaid}
 use Rattle.writer.proofs.Keeps.{open-leaves, add-leaves, close-leaves}
 use Rattle.writer.proofs.Framing.{front, front-length, framed-front}
@@ -77,7 +78,7 @@ area-is = refl
 
 -- ---- a desk
 abbrev pub writer : Last → Settings → Place → Rest → ℕ → Writer
-writer l u p r c = record { system = 0; mode = 8; last = l; settings = u; place = p; rest = r; crc = c }
+writer l u p r c = record { system = 0; mode = 8; last = l; settings = u; place = p; rest = r; crc = c; used = 0 }
 
 -- with that CRC, and where no word is laid
 abbrev pub deskOf : ℕ → Last → Settings → Place → Rest → Sent → ℕ → List ℕ → List Piece → Desk
@@ -88,7 +89,7 @@ desk l u p r s i vs ps = deskOf crcStart l u p r s i vs ps
 
 -- a line of these settings, F and V 0
 abbrev pub sent : ℕ → List (List ℕ) → List Complete → List ℕ → Sent
-sent n qs bs ws = record { f = false; v = false; number = n; settings = one-set; pieces = qs; blocks = bs; words = ws }
+sent n qs bs ws = record { f = false; v = false; number = n; settings = one-set; pieces = qs; packets = []; blocks = bs; words = ws }
 
 -- an open line is 1,716 words long
 open-long : (d : Desk) → DeskOk 0 8 d → isAt (d .writer .place) ≡ true → length (d .now .words) ≡ 1716
@@ -96,11 +97,12 @@ open-long d ok at =
     let o = ok .opened at in
     let a = joined (d .now .pieces) in
     let s = d .now in
-    let h = front (systemOf 0) (s .f) (s .v) (s .number) (s .settings) [] in
+    let g = packed (s .packets) in
+    let h = front (systemOf 0) (s .f) (s .v) (s .number) (s .settings) g in
     let fill : List ℕ = replicate (1440 - length a) 0x200 in
     let whole : length (d .now .words) ≡ length h + length (a ++ fill) =
-    ap length (o .is-open .is ∙ framed-front (systemOf 0) (s .f) (s .v) (s .number) (s .settings) [] (a ++ fill)) ∙ length-append h (a ++ fill) in
-    let before : length h ≡ 276 = front-length (systemOf 0) (s .f) (s .v) (s .number) (s .settings) [] (o .openable .held) (o .openable .row .room) (omega arith) in
+    ap length (o .is-open .is ∙ framed-front (systemOf 0) (s .f) (s .v) (s .number) (s .settings) g (a ++ fill)) ∙ length-append h (a ++ fill) in
+    let before : length h ≡ 276 = front-length (systemOf 0) (s .f) (s .v) (s .number) (s .settings) g (o .openable .held) (o .openable .row .room) (o .is-open .holds) in
     let laid = length-append a fill in
     let filled : length {A = ℕ} (replicate (1440 - length a) 0x200) ≡ 1440 - length a = length-replicate (1440 - length a) 0x200 in
     omega (arith, o .is-open .within, area-most 1440 (s .settings .flag))

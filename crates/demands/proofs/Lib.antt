@@ -36,6 +36,7 @@ pub mod FixedLines
 pub mod Writable
 pub mod Closing
 pub mod Demand1Holds
+pub mod Listed
 pub mod Demand2Holds
 pub mod RunningHolds
 pub mod FrameCourse

@@ -20,6 +20,10 @@ use Rattle.writer.specs.Opening.{isNext, opening}
 use Rattle.writer.specs.Adding.{valued, adding}
 use Rattle.writer.specs.Block.{blockWords, fixedWords, wordsIn}
 use Rattle.writer.specs.Closing.{closing}
+use Rattle.line.specs.Settings.{Held}
+use Rattle.line.proofs.GapLaws.{GapHolds}
+use Rattle.packets.specs.Packet.{packed}
+use Rattle.packets.proofs.ListLaws.{AllSound}
 use Rattle.writer.specs.Filling.{pieceOf, joined, areaFrom}
 use Rattle.demands.specs.Sending.{Desk, valuesNow, pieceNow, joinedPieces}
 
@@ -70,8 +74,11 @@ pub record Adds (mode : ℕ) (d : Desk) (kind : ℕ) (vs : List ℕ) : Type 0 wh
 -- closed: the line of the definition, which the line check accepts
 pub record Closes (system mode : ℕ) (d : Desk) : Type 0 where
   pub is : closing (d .writer) (d .now .words) .line
-      ≡ lineWords (systemOf system) (d .now .f) (d .now .v) (d .now .number) (d .now .settings) [] (areaFrom (systemOf system .payload) (d .now .settings .flag) (d .now .pieces))
+      ≡ lineWords (systemOf system) (d .now .f) (d .now .v) (d .now .number) (d .now .settings) (packed (d .now .packets)) (areaFrom (systemOf system .payload) (d .now .settings .flag) (d .now .pieces))
   pub accepts : Accepted system mode (d .now .number) (d .now .settings) (areaFrom (systemOf system .payload) (d .now .settings .flag) (d .now .pieces)) (closing (d .writer) (d .now .words) .line)
+  pub held : Held (d .now .settings)
+  pub holds : GapHolds (systemOf system) (packed (d .now .packets))
+  pub sound : AllSound (d .now .packets)
   pub last-is : d .writer .last ≡ Number (d .now .number)
   pub settings-are : d .writer .settings ≡ d .now .settings
   pub state-last : closing (d .writer) (d .now .words) .state .last ≡ d .writer .last

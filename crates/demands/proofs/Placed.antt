@@ -149,14 +149,14 @@ module _ (system mode : ℕ) where
   placed-by : (d : Desk) (c : Call) (d′ : Desk) (ts : List Sent) → Does true d c d′ ts → DeskOk system mode d → DeskOk system mode d′ → (cs : List Call) (ss : List Sent)
       → Shown d′ cs ss → Shown d (c ∷ cs) (ts ++ ss)
   unfolding Shown Somewhere OnOpen
-  placed-by d c _ _ (is-quiet w ws q) dk k cs ss more rs h =
-      let f : (p : Piece) → Somewhere rs d p → Somewhere rs (moves d w ws) p =
+  placed-by d c _ _ (is-quiet w qs ws q) dk k cs ss more rs h =
+      let f : (p : Piece) → Somewhere rs d p → Somewhere rs (moves d w qs ws) p =
       λ p. ⊎-elim (λ l. inl l) (λ r. inr (ap isAt (q .place) ∙ r .0, r .1)) in
       more rs
       (record {
         many = h .many;
-        owed = all-by (Somewhere rs d) (Somewhere rs (moves d w ws)) f (d .pieces) (h .owed);
-        finished = λ at. moves-all rs rs d (moves d w ws) f (d .now .blocks) (h .finished (sym (ap isAt (q .place)) ∙ at));
+        owed = all-by (Somewhere rs d) (Somewhere rs (moves d w qs ws)) f (d .pieces) (h .owed);
+        finished = λ at. moves-all rs rs d (moves d w qs ws) f (d .now .blocks) (h .finished (sym (ap isAt (q .place)) ∙ at));
       })
   placed-by d _ _ _ (is-opened f v n t held lent e) dk k cs ss more rs h =
       let shut = ap isAt (opens-say system mode d f v n t lent dk e .was-shut) in

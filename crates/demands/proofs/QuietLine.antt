@@ -4,6 +4,7 @@ use Prim.Native.Nat.{ℕ}
 use mathlib.Core.Bool.{Bool, true}
 use mathlib.Core.List.{List}
 use mathlib.Core.Path.{_≡_, sym, ap, _∙_}
+use Rattle.packets.specs.Packet.{Packet}
 use Rattle.course.specs.Course.{isAt}
 use Rattle.writer.specs.declared.state.Writer.{Writer}
 use Rattle.writer.specs.State.{isPart}
@@ -13,7 +14,7 @@ use Rattle.demands.proofs.DeskCalls.{moves}
 use Rattle.demands.proofs.DeskDoes.{Quiet}
 use Rattle.demands.proofs.Ahead.{Ahead}
 
-module _ (system mode cap : ℕ) (keeps : ℕ → Bool) (told gone : Bool) (d : Desk) (ear : Ear) (w : Writer) (ws : List ℕ) (q : Quiet told d w ws)
+module _ (system mode cap : ℕ) (keeps : ℕ → Bool) (told gone : Bool) (d : Desk) (ear : Ear) (w : Writer) (qs : List Packet) (ws : List ℕ) (q : Quiet told d w qs ws)
     (a : Ahead system mode cap keeps told gone d ear) where
   was-at : isAt (w .place) ≡ true → isAt (d .writer .place) ≡ true
   was-at e = sym (ap isAt (q .place)) ∙ e
@@ -21,7 +22,7 @@ module _ (system mode cap : ℕ) (keeps : ℕ → Bool) (told gone : Bool) (d : 
   was-part : isPart (w .rest) ≡ true → isPart (d .writer .rest) ≡ true
   was-part e = sym (ap isPart (q .rest)) ∙ e
 
-  pub quiet-ahead : Ahead system mode cap keeps told gone (moves d w ws) ear
+  pub quiet-ahead : Ahead system mode cap keeps told gone (moves d w qs ws) ear
   quiet-ahead = record {
     listens = a .listens;
     between = λ e.

@@ -14,6 +14,7 @@ use Rattle.course.specs.declared.Place.the-variants.{Shut, At}
 use Rattle.course.specs.Course.{isAt, placeOf}
 use Rattle.writer.specs.declared.state.Writer.{Writer}
 use Rattle.writer.specs.Answers.{Left, Added}
+use Rattle.packets.specs.Packet.{packed}
 use Rattle.writer.specs.Filling.{joined}
 use Rattle.writer.proofs.Keeps.{open-clear, open-leaves, add-leaves, close-clear, close-leaves}
 use Rattle.writer.proofs.Refusals.{can-open}
@@ -31,7 +32,7 @@ NoneLaid d = isAt (d .writer .place) ≡ false → d .writer .crc ≡ crcStart
 
 -- an opening and an addition leave a line open, a closing starts anew, and no other call changes the number
 none-by : (d : Desk) (c : Call) (d′ : Desk) (ts : List Sent) → Does true d c d′ ts → NoneLaid d → NoneLaid d′
-none-by d c _ _ (is-quiet w ws q) h shut = q .crc ∙ h (ap isAt (sym (q .place)) ∙ shut)
+none-by d c _ _ (is-quiet w qs ws q) h shut = q .crc ∙ h (ap isAt (sym (q .place)) ∙ shut)
 none-by d _ _ _ (is-opened f v n t held lent e) h shut =
     absurd (true-false (sym (ap (λ (x : Left). isAt (x .state .place)) (open-leaves (d .writer) f v n t lent (open-clear (d .writer) f v n t lent e))) ∙ shut))
 none-by d _ _ _ (is-finished kind vs clear e) h shut =
@@ -52,7 +53,7 @@ nothing-there : (system : ℕ) (w : Writer) (line : List ℕ) → isAt (w .place
 nothing-there system w line shut = go (w .place) refl
   where
     go : (p : Place) → w .place ≡ p → crcOf crcStart (laidIn system w line) ≡ crcStart
-    go Shut e = ap (λ (p : Place). crcOf crcStart (laidIn system (record { system = w .system; mode = w .mode; last = w .last; settings = w .settings; place = p; rest = w .rest; crc = w .crc }) line)) e
+    go Shut e = ap (λ (p : Place). crcOf crcStart (laidIn system (record { system = w .system; mode = w .mode; last = w .last; settings = w .settings; place = p; rest = w .rest; crc = w .crc; used = w .used }) line)) e
         ∙ crc-none crcStart (lit< tt)
     go (At k) e = absurd (true-false (sym (ap isAt e) ∙ shut))
 
@@ -63,7 +64,7 @@ kept-by system mode d ok none = go (isAt (d .writer .place)) refl
     go true at =
         let o = ok .opened at in
         let a = o .openable in
-        summed-there system mode (d .now .f) (d .now .v) (d .now .number) (d .now .settings) (a .held) (a .known) (a .row) (a .clean) (joined (d .now .pieces))
+        summed-there system mode (d .now .f) (d .now .v) (d .now .number) (d .now .settings) (a .held) (a .known) (a .row) (a .clean) (packed (d .now .packets)) (joined (d .now .pieces))
         (d .writer) (d .now .words) (o .is-open)
     go false shut = none shut ∙ sym (nothing-there system (d .writer) (d .now .words) shut)
 
@@ -72,8 +73,8 @@ running = record {
   kept = λ system mode cs.
       let both = both-after system mode cs (start system mode) (start-ok system mode) (λ e. refl) in
       kept-by system mode (deskAfter (start system mode) cs) (both .0) (both .1);
-  any-line = λ w f v n t lent w′ line ps held done calls.
+  any-line = λ w f v n t lent w′ line ps qs held done calls.
       let o = can-open w n t (length lent) (open-clear w f v n t lent done) in
-      let there = filling (w .system) (w .mode) f v n t held (o .known) (o .row) (o .clean) [] _ _ w′ line ps calls (opened-line w f v n t lent done) in
-      summed-there (w .system) (w .mode) f v n t held (o .known) (o .row) (o .clean) (joined ps) w′ line there;
+      let there = filling (w .system) (w .mode) f v n t held (o .known) (o .row) (o .clean) [] [] _ _ w′ line ps qs calls (opened-line w f v n t lent done) in
+      summed-there (w .system) (w .mode) f v n t held (o .known) (o .row) (o .clean) (packed qs) (joined ps) w′ line there;
 }

@@ -62,19 +62,19 @@ unfolding fitsLength
 fits-by system mode long known moded e = and-true known (and-true moded (eq-eqb long (systemOf system .length) e))
 
 -- an open line has the length of its system
-pub open-long : (system mode : ℕ) (f v : Bool) (n : ℕ) (t : Settings) (a : List ℕ) (w : Writer) (line : List ℕ) → Held t → isSystem system ≡ true
-    → Open system mode f v n t a w line → length line ≡ systemOf system .length
-open-long system mode f v n t a w line held known o =
+pub open-long : (system mode : ℕ) (f v : Bool) (n : ℕ) (t : Settings) (gs a : List ℕ) (w : Writer) (line : List ℕ) → Held t → isSystem system ≡ true
+    → Open system mode f v n t gs a w line → length line ≡ systemOf system .length
+open-long system mode f v n t gs a w line held known o =
     let row = sound system known in
     let p = systemOf system .payload in
     let filler : List ℕ = replicate (p - length a) 0x200 in
-    ap length (o .is ∙ framed-front (systemOf system) f v n t [] (a ++ filler))
+    ap length (o .is ∙ framed-front (systemOf system) f v n t gs (a ++ filler))
     ∙ omega (
       arith,
-      length-append (front (systemOf system) f v n t []) (a ++ filler),
+      length-append (front (systemOf system) f v n t gs) (a ++ filler),
       length-append a filler,
       length-replicate {A = ℕ} (p - length a) 0x200,
-      front-length (systemOf system) f v n t [] held (row .room) (omega (arith, row .room)),
+      front-length (systemOf system) f v n t gs held (row .room) (o .holds),
       o .within,
       area-most p (t .flag),
       row .room,

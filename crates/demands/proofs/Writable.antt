@@ -32,6 +32,7 @@ use Rattle.writer.specs.Block.{wordsIn}
 use Rattle.writer.specs.Opening.{isNext, openBlocked, opening}
 use Rattle.writer.specs.Adding.{valued, illShaped, isFull, isOther, addFault, todo, fitting, adding}
 use Rattle.writer.specs.Closing.{closing}
+use Rattle.packets.specs.Packet.{packed}
 use Rattle.writer.specs.Filling.{joined}
 use Rattle.writer.proofs.Keeps.{open-leaves, close-leaves, add-leaves}
 use Rattle.writer.proofs.Refusals.{begun, can-add}
@@ -134,7 +135,7 @@ module _ (system mode : ℕ) (f v : Bool) (t : Settings) (held : Held t) (known 
         let o = now-open .is-open in
         ap₂ (λ (s m : ℕ). fitsLength s m (length (d .now .words))) (o .of-system) (o .of-mode)
         ∙ fits-by system mode (length (d .now .words)) known moded
-        (open-long system mode (d .now .f) (d .now .v) (d .now .number) (d .now .settings) (joined (d .now .pieces)) (d .writer) (d .now .words) (now-open .openable .held) known o)
+        (open-long system mode (d .now .f) (d .now .v) (d .now .number) (d .now .settings) (packed (d .now .packets)) (joined (d .now .pieces)) (d .writer) (d .now .words) (now-open .openable .held) known o)
 
     end-now : endIn (d .writer) ≡ blocksEnd (systemOf system .payload) (d .now .settings .block) (d .now .settings .flag)
     end-now =

@@ -18,11 +18,12 @@ use Rattle.writer.specs.declared.state.Laid.the-variants.{Refused as NotLaid, F
 use Rattle.writer.specs.State.{fresh}
 use Rattle.writer.specs.Opening.{opening}
 use Rattle.writer.specs.Adding.{adding}
+use Rattle.writer.specs.Packing.{packing}
 use Rattle.writer.specs.Closing.{closing}
 use Rattle.writer.specs.Batch.{Entry, whole, broken, entriesOf, Batched, batchFault, batching}
 use Rattle.reader.specs.State as reader
 use Rattle.demands.specs.All.{All}
-use Rattle.demands.specs.Sending.{Call, opens, adds, closes, Block, Sent, Desk, after, sentFresh, blocksOf}
+use Rattle.demands.specs.Sending.{Call, opens, adds, packs, closes, Block, Sent, Desk, after, sentFresh, blocksOf}
 use Rattle.demands.specs.Hearing.{Heard, Reads, handedOut}
 use Rattle.demands.specs.Damage.{Fate, kept, removed, replaced, keptAt, survivors}
 use Rattle.demands.specs.Running.{deskAfter}
@@ -71,6 +72,7 @@ unfoldable pub finishedOn : Desk → List Call → ℕ
 finishedOn d [] = 0
 finishedOn d (opens f v n t held lent ∷ cs) = finishedOn (after d (opens f v n t held lent)) cs
 finishedOn d (adds kind vs ∷ cs) = oneIf (adding (d .writer) (d .now .words) kind vs .answer) + finishedOn (after d (adds kind vs)) cs
+finishedOn d (packs did second p q vs ∷ cs) = finishedOn (after d (packs did second p q vs)) cs
 finishedOn d (closes ∷ cs) = finishedOn (after d closes) cs
 
 -- what calls left of a desk, and how many blocks they finished on it, is what a call with a list leaves
@@ -100,6 +102,7 @@ lineBy Done lent before = lent
 unfoldable pub doneBy : Now → Mixed → Now
 doneBy m (single (opens f v n t held lent)) = let x = opening (m .writer) f v n t lent in now (x .state) (lineBy (x .answer) (x .line) (m .line))
 doneBy m (single (adds kind vs)) = let x = adding (m .writer) (m .line) kind vs in now (x .state) (x .line)
+doneBy m (single (packs did second p q vs)) = let x = packing (m .writer) (m .line) did second vs in now (x .state) (x .line)
 doneBy m (single closes) = let x = closing (m .writer) (m .line) in now (x .state) (x .line)
 doneBy m (many blocks) = let x = batching (m .writer) (m .line) blocks in now (x .state) (x .line)
 
@@ -111,6 +114,7 @@ closedBy Done line = line ∷ []
 unfoldable pub closesBy : Now → Mixed → List (List ℕ)
 closesBy m (single (opens f v n t held lent)) = []
 closesBy m (single (adds kind vs)) = []
+closesBy m (single (packs did second p q vs)) = []
 closesBy m (single closes) = let x = closing (m .writer) (m .line) in closedBy (x .answer) (x .line)
 closesBy m (many blocks) = []
 

@@ -1,6 +1,6 @@
 -- DEMAND 1. Every entry point takes any words, lengths, settings and states, and ends. Bad input gets exactly the refusal that document 01
 -- numbers, exactly when its condition holds, with buffers and state as stated there.
--- "Takes any": each field is for all states, settings, numbers and words, and the contracts of `check`, `open_line`, `add_block`, `add_blocks`,
+-- "Takes any": each field is for all states, settings, numbers and words, and the contracts of `check`, `open_line`, `add_block`, `add_blocks`, `add_packet`,
 -- `close_line` and `read`, which have no `requires`, say that the functions are these definitions. "And ends" is not a sentence of this page but the
 -- checker's rule: it accepts a function only with a number that falls with each turn of each loop and with each call in a cycle of calls.
 -- The conditions are 01's, in the order of its table:
@@ -22,6 +22,7 @@
 --    19 no place (variable: word) left in the open line                 `isFull`
 --    20 opening: .. ; adding: .. ; closing: ..                          `openBlocked`; in `addFaults`, `isOther`; in `closeFaults`
 --    28 entry broken off, by 02, Item 9: a list of blocks               `broken`, in `entriesIn`
+-- and of 02, Item 3, for a packet: 17 word above 511, 18 over 255 words, 20 no line open, 24 packet and gap words used exceed the gap: `packFaults`
 -- Assumes nothing.
 use Prim.Native.Nat.{ℕ, suc, _≤_, _<_}
 use mathlib.Core.Bool.{Bool, true, false, _&&_}
@@ -42,6 +43,7 @@ use Rattle.writer.specs.declared.state.Writer.{Writer}
 use Rattle.writer.specs.Answers.{answerNumbers, laidNumbers}
 use Rattle.writer.specs.Opening.{openFaults, opening}
 use Rattle.writer.specs.Adding.{addFaults, adding}
+use Rattle.writer.specs.Packing.{packFaults, packing}
 use Rattle.writer.specs.Closing.{closeFaults, closing}
 use Rattle.writer.specs.Batch.{Entry, whole, broken, entriesOf, stopNumbers, layAll, batchFaults, batching}
 use Rattle.machine.specs.Phases.{phaseNumbers, isBusy}
@@ -123,12 +125,18 @@ pub record Demand1 : Type 0 where
   -- closing: 1, 2, 20
   pub close-line : (w : Writer) (line : List ℕ)
       → Numbered (closeFaults w (length line)) (1 ∷ 2 ∷ 20 ∷ []) (λ (k : ℕ). answerNumbers (closing w line .answer) ≡ k ∷ []) (answerNumbers (closing w line .answer) ≡ [])
+  -- adding a packet (02, Item 3): 1, 2, 17, 18, 20, 24
+  pub add-packet : (w : Writer) (line : List ℕ) (did second : ℕ) (vs : List ℕ)
+      → Numbered (packFaults w (length line) vs) (1 ∷ 2 ∷ 17 ∷ 18 ∷ 20 ∷ 24 ∷ []) (λ (k : ℕ). answerNumbers (packing w line did second vs .answer) ≡ k ∷ [])
+      (answerNumbers (packing w line did second vs .answer) ≡ [])
   -- all leave line and state
   pub open-leaves : (w : Writer) (f v : Bool) (n : ℕ) (t : Settings) (line : List ℕ) (k : ℕ) → answerNumbers (opening w f v n t line .answer) ≡ k ∷ []
       → (opening w f v n t line .state ≡ w) × (opening w f v n t line .line ≡ line)
   pub add-leaves : (w : Writer) (line : List ℕ) (kind : ℕ) (vs : List ℕ) (k : ℕ) → laidNumbers (adding w line kind vs .answer) ≡ k ∷ []
       → (adding w line kind vs .state ≡ w) × (adding w line kind vs .line ≡ line)
   pub close-leaves : (w : Writer) (line : List ℕ) (k : ℕ) → answerNumbers (closing w line .answer) ≡ k ∷ [] → (closing w line .state ≡ w) × (closing w line .line ≡ line)
+  pub pack-leaves : (w : Writer) (line : List ℕ) (did second : ℕ) (vs : List ℕ) (k : ℕ) → answerNumbers (packing w line did second vs .answer) ≡ k ∷ []
+      → (packing w line did second vs .state ≡ w) × (packing w line did second vs .line ≡ line)
   -- reading: 1-13, 15, 16
   pub read : (st : Reader) (line room : List ℕ)
       → Numbered (readRefusals st line room) (readAnswers (st .place)) (ReadRefused st line room) (ReadServed st line room)

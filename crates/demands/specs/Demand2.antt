@@ -1,6 +1,6 @@
 -- DEMAND 2. Every line opened, filled and closed is the line that BT.1381-2 and document 01 define, word by word. A line is accepted exactly
 -- if 01's checks find no fault. A fresh reader lent a fresh writer's lines gives back the headers and the finished blocks. An accepted header
--- written again gives the same 53 words.
+-- written again gives the same 53 words. By 02, Item 3, the gap has the packets laid in it first, and they are listed again.
 -- Assumes nothing.
 use Prim.Native.Nat.{ℕ, zero, suc, _+_, _-_, _≤_}
 use mathlib.Core.Bool.{Bool, true, false}
@@ -16,6 +16,8 @@ use Rattle.line.specs.Settings.{Held, settingsFault}
 use Rattle.line.specs.Header.{headerWords}
 use Rattle.line.specs.Layout.{areaLength, lineWords, areaOf}
 use Rattle.line.specs.Check.{numberOf, settingsOf, fitsLength, lineFault}
+use Rattle.packets.specs.Packet.{Packet, packed}
+use Rattle.packets.specs.Listing.{gapLength, gapOf, listedOf, listing}
 use Rattle.course.specs.declared.Last.{Last}
 use Rattle.course.specs.declared.Last.the-variants.{Unknown, Number}
 use Rattle.course.specs.declared.Place.the-variants.{Shut}
@@ -35,10 +37,10 @@ use Rattle.demands.specs.Sending.{Call, Block, Piece, Complete, Sent, se
 use Rattle.demands.specs.Writable.{Passes, Writes, TypeHeld, Closable}
 use Rattle.demands.specs.Hearing.{Heard, is-begun, is-block, is-end, Reads, Readable}
 
--- The line is 01's: EAV, header, gap, SAV, then the area, which is what was laid and filler behind it, and the CRC words.
+-- The line is 01's: EAV, header, the gap with the packets laid in it first and 01's filler after, SAV, then the area, which is what was laid and filler behind it, and the CRC words.
 abbrev pub IsLine : ℕ → Sent → Type 0
 IsLine system s =
-    s .words ≡ lineWords (systemOf system) (s .f) (s .v) (s .number) (s .settings) [] (areaFrom (systemOf system .payload) (s .settings .flag) (s .pieces))
+    s .words ≡ lineWords (systemOf system) (s .f) (s .v) (s .number) (s .settings) (packed (s .packets)) (areaFrom (systemOf system .payload) (s .settings .flag) (s .pieces))
 
 -- a piece has one word or more
 abbrev pub HasWord : Piece → Type 0
@@ -76,11 +78,23 @@ givenBack lines before (s ∷ ss) =
     is-begun (s .number) (jumpFrom lines before (s .number)) false (s .settings)
     ∷ (map (λ (b : Complete). is-block (b .block)) (s .blocks) ++ (is-end ∷ givenBack lines (Number (s .number)) ss))
 
+-- the packets laid on a line, listed: from any words that are lent for the list
+abbrev pub IsListed : ℕ → ℕ → Sent → Type 0
+IsListed system mode s =
+    (out : List ℕ) → length out ≡ gapLength (systemOf system) → listing system mode (s .words) out ≡ listedOf (record { packets = s .packets; stop = 0 }) out
+
+-- what is listed of a line, and that it is so many of the gap's first words
+pub record Relists (system mode : ℕ) (line out : List ℕ) : Type 0 where
+  pub packets : List Packet
+  pub stop : ℕ
+  pub listed : listing system mode line out ≡ listedOf (record { packets = packets; stop = stop }) out
+  pub again : packed packets ≡ take (length (packed packets)) (gapOf (systemOf system) line)
+
 pub record Demand2 : Type 0 where
   pub lines : (system mode : ℕ) (cs : List Call) → All (IsLine system) (sentFresh system mode cs)
   -- and the same of a writer in any state, fresh or not: a line opened, filled by any calls and closed
-  pub any-line : (w : Writer) (f v : Bool) (n : ℕ) (t : Settings) (lent : List ℕ) (w′ : Writer) (line : List ℕ) (ps : List (List ℕ)) → Held t
-      → Written w f v n t lent w′ line ps → line ≡ lineWords (systemOf (w .system)) f v n t [] (areaFrom (systemOf (w .system) .payload) (t .flag) ps)
+  pub any-line : (w : Writer) (f v : Bool) (n : ℕ) (t : Settings) (lent : List ℕ) (w′ : Writer) (line : List ℕ) (ps : List (List ℕ)) (qs : List Packet) → Held t
+      → Written w f v n t lent w′ line ps qs → line ≡ lineWords (systemOf (w .system)) f v n t (packed qs) (areaFrom (systemOf (w .system) .payload) (t .flag) ps)
   -- and such lines can be had: from any known system and mode, any F and V, ..
   pub writable : (system mode : ℕ) (f v : Bool) (n : ℕ) (t : Settings) (bs : List Block) → isSystem system ≡ true → isMode mode ≡ true
       -- .. any number 1..N, any settings that 10-13 let pass, ..
@@ -111,4 +125,8 @@ pub record Demand2 : Type 0 where
       → hs ≡ givenBack (systemOf system .lines) Unknown (sentFresh system mode cs)
   -- and such a course of reading calls exists
   pub readable : (system mode : ℕ) (cs : List Call) (room : List ℕ) → Readable (fresh system mode) room (map (λ (s : Sent). s .words) (sentFresh system mode cs))
+  -- the listing of each sent line gives exactly the packets that were laid in its gap, and no bad packet ends it
+  pub listed-back : (system mode : ℕ) (cs : List Call) → All (IsListed system mode) (sentFresh system mode cs)
+  -- of every accepted line, whatever ended the list: the words of the listed packets are the first words of its gap
+  pub relisted : (system mode : ℕ) (line out : List ℕ) → lineFault system mode line ≡ 0 → length out ≡ gapLength (systemOf system) → Relists system mode line out
   pub rewritten : (system mode : ℕ) (line : List ℕ) → lineFault system mode line ≡ 0 → part 4 53 line ≡ headerWords (numberOf line) (settingsOf line)

@@ -13,7 +13,7 @@ use Rattle.writer.specs.State.{isPart}
 use Rattle.writer.specs.Opening.{opening}
 use Rattle.writer.specs.Adding.{addFault, adding}
 use Rattle.writer.specs.Closing.{closing}
-use Rattle.demands.specs.Sending.{Call, opens, adds, closes, Complete, Desk, start, pieceNow, after}
+use Rattle.demands.specs.Sending.{Call, opens, adds, packs, closes, Complete, Desk, start, pieceNow, after}
 
 -- ---- each block lent unchanged until finished
 -- an accepted addition made while a block is unfinished lends the values that were laid
@@ -24,6 +24,7 @@ unfoldable pub Unchanged : Desk → List Call → Type 0
 Unchanged d [] = Unit {0}
 Unchanged d (opens f v n t held lent ∷ cs) = Unchanged (after d (opens f v n t held lent)) cs
 Unchanged d (adds kind vs ∷ cs) = LendsAgain d kind vs × Unchanged (after d (adds kind vs)) cs
+Unchanged d (packs did second p q vs ∷ cs) = Unchanged (after d (packs did second p q vs)) cs
 Unchanged d (closes ∷ cs) = Unchanged (after d closes) cs
 
 -- ---- the blocks, with the pieces in which they were laid
@@ -48,6 +49,7 @@ unfoldable pub lentBy : Desk → List Complete → List Call → List Complete
 lentBy d bs [] = []
 lentBy d bs (opens f v n t held lent ∷ cs) = lentBy (after d (opens f v n t held lent)) (openedWith (opening (d .writer) f v n t lent .answer) bs) cs
 lentBy d bs (adds kind vs ∷ cs) = lentBy (after d (adds kind vs)) (bs ++ finishedBy (adding (d .writer) (d .now .words) kind vs .answer) d kind vs) cs
+lentBy d bs (packs did second p q vs ∷ cs) = lentBy (after d (packs did second p q vs)) bs cs
 lentBy d bs (closes ∷ cs) = closedWith (closing (d .writer) (d .now .words) .answer) bs ++ lentBy (after d closes) bs cs
 
 -- of calls on a fresh writer

@@ -11,6 +11,7 @@ use Rattle.line.specs.declared.settings.Settings.{Settings}
 use Rattle.line.specs.Systems.{systemOf}
 use Rattle.line.specs.Settings.{Held}
 use Rattle.line.specs.Layout.{payloadAt}
+use Rattle.packets.specs.Packet.{Packet}
 use Rattle.course.specs.Course.{placeOf}
 use Rattle.writer.specs.declared.state.Writer.{Writer}
 use Rattle.writer.specs.declared.state.Answer.the-variants.{Done}
@@ -31,6 +32,6 @@ pub record Running : Type 0 where
   -- any system and mode, any calls, at every moment: with a line open, and with none
   pub kept : (system mode : ℕ) (cs : List Call) → let d = deskAfter (start system mode) cs in d .writer .crc ≡ crcOf crcStart (laidIn system (d .writer) (d .now .words))
   -- and the same of a writer in any state, whatever number it had: from an accepted opening on, by any calls that leave the line open
-  pub any-line : (w : Writer) (f v : Bool) (n : ℕ) (t : Settings) (lent : List ℕ) (w′ : Writer) (line : List ℕ) (ps : List (List ℕ)) → Held t
-      → opening w f v n t lent .answer ≡ Done → Filling (opening w f v n t lent .state) (opening w f v n t lent .line) w′ line ps
+  pub any-line : (w : Writer) (f v : Bool) (n : ℕ) (t : Settings) (lent : List ℕ) (w′ : Writer) (line : List ℕ) (ps : List (List ℕ)) (qs : List Packet) → Held t
+      → opening w f v n t lent .answer ≡ Done → Filling (opening w f v n t lent .state) (opening w f v n t lent .line) w′ line ps qs
       → w′ .crc ≡ crcOf crcStart (laidIn (w .system) w′ line)

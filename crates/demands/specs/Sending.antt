@@ -1,10 +1,11 @@
 -- A course of calls on a writer: the lines that it closes, and the blocks that it finishes.
 -- Assumes nothing.
-use Prim.Native.Nat.{ℕ, suc}
+use Prim.Native.Nat.{ℕ, suc, _<_}
 use mathlib.Core.Bool.{Bool, false}
 use mathlib.Core.List.{List, [], _∷_, _++_}
 use Rattle.line.specs.declared.settings.Settings.{Settings}
 use Rattle.line.specs.Settings.{Held, noSettings}
+use Rattle.packets.specs.Packet.{Packet}
 use Rattle.writer.specs.declared.state.Writer.{Writer}
 use Rattle.writer.specs.declared.state.Answer.{Answer}
 use Rattle.writer.specs.declared.state.Answer.the-variants.{Refused, Done}
@@ -14,14 +15,16 @@ use Rattle.writer.specs.State.{laidOf, fresh}
 use Rattle.writer.specs.Answers.{Left, Added}
 use Rattle.writer.specs.Opening.{opening}
 use Rattle.writer.specs.Adding.{adding}
+use Rattle.writer.specs.Packing.{packing}
 use Rattle.writer.specs.Closing.{closing}
 use Rattle.writer.specs.Filling.{pieceOf, asLaid}
 
--- A call on the writer, accepted or refused. Opening is lent a line with any words in it; adding and closing are lent the line
--- that was opened last, as the call before left it. Settings are any value of their type.
+-- A call on the writer, accepted or refused. Opening is lent a line with any words in it; adding, packing and closing are lent the line
+-- that was opened last, as the call before left it. Settings are any value of their type, and so are a packet's DID and second word.
 pub data Call : Type 0 where
   opens : (f v : Bool) (n : ℕ) (t : Settings) → Held t → (lent : List ℕ) → Call
   adds : (kind : ℕ) (values : List ℕ) → Call
+  packs : (did second : ℕ) → did < 256 → second < 256 → (values : List ℕ) → Call
   closes : Call
 
 -- a block: its type and its values
@@ -39,13 +42,14 @@ pub record Complete : Type 0 where
   pub block : Block
   pub pieces : List Piece
 
--- a line: what it was opened with, what was laid on it by one addition after another, the blocks finished on it, and its words
+-- a line: what it was opened with, what was laid on it by one addition after another, the packets laid in its gap, the blocks finished on it, and its words
 pub record Sent : Type 0 where
   pub f : Bool
   pub v : Bool
   pub number : ℕ
   pub settings : Settings
   pub pieces : List (List ℕ)
+  pub packets : List Packet
   pub blocks : List Complete
   pub words : List ℕ
 
@@ -62,7 +66,7 @@ abbrev pub start : ℕ → ℕ → Desk
 start system mode =
     record {
       writer = fresh system mode;
-      now = record { f = false; v = false; number = 0; settings = noSettings; pieces = []; blocks = []; words = [] };
+      now = record { f = false; v = false; number = 0; settings = noSettings; pieces = []; packets = []; blocks = []; words = [] };
       closed = 0;
       values = [];
       pieces = [];
@@ -74,7 +78,7 @@ openedBy (Refused k) x d f v n t = record { writer = x .state; now = d .now; clo
 openedBy Done x d f v n t =
     record {
       writer = x .state;
-      now = record { f = f; v = v; number = n; settings = t; pieces = []; blocks = []; words = x .line };
+      now = record { f = f; v = v; number = n; settings = t; pieces = []; packets = []; blocks = []; words = x .line };
       closed = d .closed;
       values = d .values;
       pieces = d .pieces;
@@ -83,7 +87,7 @@ openedBy Done x d f v n t =
 -- ---- adding
 -- the line opened last, with these pieces, blocks and words
 abbrev pub with : Sent → List (List ℕ) → List Complete → List ℕ → Sent
-with s ps bs ws = record { f = s .f; v = s .v; number = s .number; settings = s .settings; pieces = ps; blocks = bs; words = ws }
+with s ps bs ws = record { f = s .f; v = s .v; number = s .number; settings = s .settings; pieces = ps; packets = s .packets; blocks = bs; words = ws }
 
 -- the values of the block as laid: of words that earlier calls laid, those that they lent; of all others, those lent now
 abbrev pub valuesNow : Desk → List ℕ → List ℕ
@@ -116,6 +120,17 @@ addedBy Unfinished x d kind vs =
       pieces = d .pieces ++ (pieceNow d kind vs ∷ []);
     }
 
+-- ---- packing
+-- the line opened last, with these packets and words
+abbrev pub withPackets : Sent → List Packet → List ℕ → Sent
+withPackets s qs ws = record { f = s .f; v = s .v; number = s .number; settings = s .settings; pieces = s .pieces; packets = qs; blocks = s .blocks; words = ws }
+
+abbrev pub packsBy : Answer → Left → Desk → Packet → Desk
+packsBy (Refused k) x d p =
+    record { writer = x .state; now = withPackets (d .now) (d .now .packets) (x .line); closed = d .closed; values = d .values; pieces = d .pieces }
+packsBy Done x d p =
+    record { writer = x .state; now = withPackets (d .now) (d .now .packets ++ (p ∷ [])) (x .line); closed = d .closed; values = d .values; pieces = d .pieces }
+
 -- ---- closing
 abbrev pub closedBy : Answer → Left → Desk → Desk
 closedBy (Refused k) x d =
@@ -131,11 +146,13 @@ sendsBy Done x d = with (d .now) (d .now .pieces) (d .now .blocks) (x .line) ∷
 unfoldable pub after : Desk → Call → Desk
 after d (opens f v n t held lent) = let x = opening (d .writer) f v n t lent in openedBy (x .answer) x d f v n t
 after d (adds kind vs) = let x = adding (d .writer) (d .now .words) kind vs in addedBy (x .answer) x d kind vs
+after d (packs did second p q vs) = let x = packing (d .writer) (d .now .words) did second vs in packsBy (x .answer) x d (record { did = did; second = second; values = vs })
 after d closes = let x = closing (d .writer) (d .now .words) in closedBy (x .answer) x d
 
 unfoldable pub sends : Desk → Call → List Sent
 sends d (opens f v n t held lent) = []
 sends d (adds kind vs) = []
+sends d (packs did second p q vs) = []
 sends d closes = let x = closing (d .writer) (d .now .words) in sendsBy (x .answer) x d
 
 -- the lines closed, in order

@@ -65,5 +65,5 @@ pub record Closable (w : Writer) (line : List ℕ) : Type 0 where
   pub last : Writer
   pub full : List ℕ
   pub pieces : List (List ℕ)
-  pub calls : Filling w line last full pieces
+  pub calls : Filling w line last full pieces []
   pub done : closing last full .answer ≡ Done

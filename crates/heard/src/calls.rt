@@ -15,7 +15,7 @@ use writer::opening;
 use writer::state::Answer;
 use writer::state::Laid;
 
-fn number_of(a: Answer) -> u64 {
+pub(crate) fn number_of(a: Answer) -> u64 {
     match a {
         Answer::Refused(n) => n as u64,
         Answer::Done => 0,
@@ -31,7 +31,7 @@ fn number_laid(a: Laid) -> u64 {
 }
 
 // A row of a writer's call: its name, ANSWER and REGISTER; where it has no name, none.
-fn put_row(name: &[u8], answer: u64, line: &[u16]) {
+pub(crate) fn put_row(name: &[u8], answer: u64, line: &[u16]) {
     if name.len() == 0 {
         return;
     }

@@ -107,11 +107,12 @@ pub(crate) fn keep_writer(s: &mut [u64; 52], w: Writer) {
     let place = w.place;
     let rest = w.rest;
     let settings = w.settings;
+    let known = numbers_of_last(last);
     keep_numbers(
         s,
         w.system,
         w.mode,
-        numbers_of_last(last),
+        [known[0], known[1] % 65536 + w.used as u64 * 65536],
         place,
         numbers_of_rest(rest, w.crc as u64),
     );

@@ -47,7 +47,7 @@ pub(crate) fn part_of(s: Step, system: u8, ns: &[u64], length: usize) -> Part
     match name {
         b'o' | b'c' => cut(length, 0, 0, known.length as u64),
         b'r' | b'u' => cut(length, 0, 0, second),
-        b'O' | b'A' | b'B' | b'C' | b'L' => cut(length, 0, 0, first),
+        b'O' | b'A' | b'B' | b'C' | b'L' | b'G' | b'F' => cut(length, 0, 0, first),
         b'w' => cut(
             length,
             start,

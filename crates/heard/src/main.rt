@@ -10,6 +10,7 @@ mod told; // told.rt: events and the reader's state in a row
 mod calls; // calls.rt: the writer and the reader called
 mod batch; // batch.rt: the writer called with a list of blocks
 mod under; // under.rt: the reader called under an allowance
+mod gap; // gap.rt: packets laid in a gap, and listed
 mod shown; // shown.rt: rows of words, sums, headers, checks and states
 mod play; // play.rt: which step does what
 

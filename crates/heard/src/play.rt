@@ -1,6 +1,7 @@
 // Which step does what, by the first letter of its name. What a step is, and its row, is said where it is done.
 use crate::batch;
 use crate::calls;
+use crate::gap;
 use crate::kept;
 use crate::lay;
 use crate::lent;
@@ -26,6 +27,7 @@ fn write(
         b'O' => calls::open(b"opened", steps::at(ns, 1), steps::at(ns, 2), wr, hd, part),
         b'A' => calls::add(ns, wr, part, room),
         b'B' => batch::add_list(ns, wr, part, room),
+        b'G' => gap::pack(ns, wr, part, room),
         b'c' => calls::close_laid(wr, part),
         b'C' => calls::close_by(wr, part),
         _ => shown::header(ns, hd),
@@ -64,6 +66,7 @@ fn show(name: u8, ns: &[u64], part: &[u16], room: &mut [u16]) {
         b'R' => make_room(ns, room),
         b'W' => shown::words(part),
         b'S' => shown::sums(part),
+        b'F' => gap::find(ns, part, room),
         _ => shown::checked(ns, part),
     }
 }
@@ -97,8 +100,15 @@ fn act(
 ) {
     let name = s.name;
     match name {
-        b'o' | b'O' | b'A' | b'B' | b'c' | b'C' | b'H' => write(name, ns, wr, hd, part, room),
-        b'v' | b'R' | b'W' | b'S' | b'L' => show(name, ns, part, room),
+        b'o' | b'O' | b'A' | b'B' | b'G' | b'c' | b'C' | b'H' => write(
+            name,
+            ns,
+            wr,
+            hd,
+            part,
+            room,
+        ),
+        b'v' | b'R' | b'W' | b'S' | b'F' | b'L' => show(name, ns, part, room),
         b'P' | b'T' => choose(s, ns, rd, wr, hd),
         b'I' => shown::impossible(rd, wr),
         b'n' => fresh(ns, rd, wr),

@@ -1,5 +1,5 @@
 // A state as 52 numbers, so that a step can put it into any value, possible or not, and a row can show all of it:
-// 0 system, 1 mode, 2 whether there is a last number, 3 that number, 4 whether a line is begun (open), 5 the place in it;
+// 0 system, 1 mode, 2 whether there is a last number, 3 that number and, of the writer, 65,536 times the words used of the gap, 4 whether a line is begun (open), 5 the place in it;
 // 6 to 10 the reader's phase: 0 idle, 1 type awaited, 2 to 5 a count byte awaited with type and bytes so far, 6 data with type,
 // announced and collected; of the writer 6 to 9 whether a block is unfinished, and its type, n and words laid, and 10 the CRC of this line;
 // 11 code, 12 AAI, 13 block type, 14 flag, 15 to 30 destination, 31 to 46 source, 47 to 51 reserved.
@@ -139,5 +139,6 @@ pub(crate) fn writer_of(s: &[u64; 52]) -> Writer {
         place: place,
         rest: rest,
         crc: (s[10] % 4294967296) as u32,
+        used: word(s[3] / 65536),
     }
 }

@@ -13,7 +13,7 @@ ghost use Rattle.words.specs.Crc.{crcWords};
 ghost use Rattle.line.specs.Check.{low, numberOf, settingsOf, timed, formed, numbered, headFaults};
 
 // Each word is in byte form.
-pub(crate) fn all_byte(s: &[u16]) -> bool
+pub fn all_byte(s: &[u16]) -> bool
     ensures { λ r. ⌜ r ≡ each isByte (now (s .entry)) ⌝ }
 {
     let mut ok = true;
@@ -26,7 +26,7 @@ pub(crate) fn all_byte(s: &[u16]) -> bool
 }
 
 // Each word is in data form.
-pub(crate) fn all_data(s: &[u16]) -> bool
+pub fn all_data(s: &[u16]) -> bool
     ensures { λ r. ⌜ r ≡ each isData (now (s .entry)) ⌝ }
 {
     let mut ok = true;

@@ -6,5 +6,5 @@ pub mod timing; // timing.rt: EAV and SAV
 pub mod header; // header.rt: the 53 header words, written
 pub mod layout; // layout.rt: the area of a line
 pub mod check; // check.rt: the line check, answers 1, 3 to 13, 15 and 16
-mod head; // head.rt: the conditions 3 to 9, and what stands in a header
+pub mod head; // head.rt: the conditions 3 to 9, and what stands in a header
 mod area; // area.rt: the conditions 15 and 16

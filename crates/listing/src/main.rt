@@ -1,7 +1,9 @@
 // Lists the lines on standard input, of system 0 and 8-bit, two bytes a word, low byte first: a row for each event. Every row's
 // text is rows::row_of's. The rows of a line are a text in memory before they are written, because no contract can say what
 // io::write_all has written: list_line promises the text, and what is written is the text of list_line, line by line.
+// With an argument, whatever it is, the rows of the packets in a line's gap follow the line's own.
 // A program has no status. Where a read or a write fails it says why on standard error, and ends; harness/program makes a status of that.
+mod gap; // gap.rt: rows of the packets in a line's gap
 mod input;
 
 use input::Got;
@@ -19,10 +21,11 @@ ghost use Rattle.reader.specs.Lending.{isLast};
 ghost use Rattle.rows.specs.Rows.{rowText};
 ghost use Rattle.listing.specs.Lines.{Between, Lists};
 
-// What goes from line to line: the reader's state, and whether more lines may come.
+// What goes from line to line: the reader's state, whether more lines may come, and whether packets are listed too.
 pub struct Kept {
     pub state: Reader,
     pub more: bool,
+    pub packets: bool,
 }
 
 // Bytes behind the first n bytes of a text.
@@ -135,6 +138,7 @@ fn next_line(kept: Kept, room: &mut [u16; 16384], text: &mut [u8]) -> Kept
     ensures { λ r. ⌜ (Between (kept .state) → Between (r .state)) ⌝ }
 {
     let st = kept.state;
+    let packets = kept.packets;
     let mut bytes = [0u8; 3432];
     let got = input::read_line(&mut bytes);
     if got.count < 3432 {
@@ -142,6 +146,7 @@ fn next_line(kept: Kept, room: &mut [u16; 16384], text: &mut [u8]) -> Kept
         return Kept {
             state: st,
             more: false,
+            packets: packets,
         };
     }
     let mut line = [0u16; 1716];
@@ -150,9 +155,11 @@ fn next_line(kept: Kept, room: &mut [u16; 16384], text: &mut [u8]) -> Kept
     let after = left.state;
     let e = left.length;
     let is_written = write_text(&text[..e]);
+    gap::list_gap(packets, &line);
     Kept {
         state: after,
         more: is_written,
+        packets: packets,
     }
 }
 
@@ -162,6 +169,7 @@ fn main() {
     let mut kept = Kept {
         state: state::fresh_reader(0, 8),
         more: true,
+        packets: os::arg_count() > 1,
     };
     let mut turns = u64::MAX;
     while turns > 0 && kept.more {

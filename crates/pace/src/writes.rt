@@ -82,6 +82,7 @@ fn again(w: Writer, line: &[u16]) -> Writer {
         place: place,
         rest: rest,
         crc: register_in(line),
+        used: w.used,
     }
 }
 

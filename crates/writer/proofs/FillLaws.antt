@@ -13,7 +13,7 @@ use borrow.Rule.Slice.PartMut.{putMid}
 use borrow.Author.Tests.{eq-eqb, ne-eqb}
 use Rattle.lists.specs.Tests.{pick}
 use Rattle.lists.proofs.Tests.{lt-or-le, pick-true, pick-false}
-use Rattle.writer.proofs.Frame.{second-long, both-back}
+use Rattle.packets.proofs.Parts.{second-long, both-back}
 use Rattle.lists.proofs.Lists.{map-part}
 use Rattle.lists.proofs.Loops as lent
 use Rattle.words.specs.Forms.{byteWord, dataWord}

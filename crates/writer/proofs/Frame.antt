@@ -1,14 +1,11 @@
--- A line laid by parts that are lent one after the other, [..a] and then [a..]; and the parts of an opened line.
+-- The parts of an opened line.
 -- Assumes nothing.
 use mathlib.Core.Path.{_≡_, sym, ap, ap₂, _∙_}
 use mathlib.Core.Bool.{Bool, true, false}
-use mathlib.Core.List.{List, _++_, append-nil}
+use mathlib.Core.List.{List, _++_}
 use Prim.Native.Nat.{ℕ, _+_, _-_, _≤_}
-use native.Mathlib.Nat.{le-refl}
 use native.Mathlib.Omega.{arith}
-use lib.ListN.{length, take, drop, replicate, length-append, length-drop, drop-of-length-le}
-use lib.Seq.{length-take-le, take-at}
-use borrow.Rule.Slice.PartMut.{putMid}
+use lib.ListN.{length, take, drop, replicate}
 use Rattle.line.specs.declared.systems.System.{System}
 use Rattle.line.specs.declared.settings.Settings.{Settings}
 use Rattle.line.specs.Systems.{systemOf}
@@ -16,33 +13,8 @@ use Rattle.line.specs.Timing.{timingWords}
 use Rattle.line.specs.Header.{headerWords}
 use Rattle.line.specs.Layout.{gapWords, framed}
 use Rattle.line.proofs.GapLaws.{gap-none}
+use Rattle.packets.proofs.Parts.{second-long}
 use Rattle.writer.specs.Opening.{openWords}
-
--- ---- two parts of d: xs comes back for [..a]
-module _ (d xs : List ℕ) (a : ℕ) (inside : a ≤ length d) (front : length xs ≡ a) where
-  first-back : length (xs ++ drop a d) ≡ length d
-  first-back = length-append xs (drop a d) ∙ ap₂ _+_ front (length-drop a d) ∙ omega arith
-
-  -- the second part, as it is lent
-  pub second-long : length (take (length (xs ++ drop a d) - a) (drop a (xs ++ drop a d))) ≡ length d - a
-  second-long =
-      length-take-le (length (xs ++ drop a d) - a) (drop a (xs ++ drop a d)) (rw (length-drop a (xs ++ drop a d)) (le-refl _))
-      ∙ ap (λ (i : ℕ). i - a) first-back
-
-  -- and ys for [a..]
-  pub both-back : (ys : List ℕ) → putMid a (length (xs ++ drop a d) - a) (xs ++ drop a d) ys ≡ xs ++ ys
-  both-back ys =
-      ap₂ (λ (l r : List ℕ). l ++ (ys ++ r)) (take-at xs (drop a d) a front)
-      (drop-of-length-le (drop a (xs ++ drop a d)) {i = length (xs ++ drop a d) - a} (rw (length-drop a (xs ++ drop a d)) (le-refl _)))
-      ∙ ap (λ (l : List ℕ). xs ++ l) (append-nil ys)
-
--- the first part is filled with ws, the second with what f gives for its length
-pub by-two : (d xs ys ws : List ℕ) (f : ℕ → List ℕ) (a : ℕ) → a ≤ length d → length ws ≡ a → xs ≡ ws
-    → ys ≡ f (length (take (length (xs ++ drop a d) - a) (drop a (xs ++ drop a d))))
-    → putMid a (length (xs ++ drop a d) - a) (xs ++ drop a d) ys ≡ ws ++ f (length d - a)
-by-two d xs ys ws f a inside long is e =
-    let front = ap length is ∙ long in
-    both-back d xs a inside front ys ∙ ap₂ _++_ is (e ∙ ap f (second-long d xs a inside front))
 
 -- ---- an opened line
 -- the header, the gap and SAV have room behind EAV

@@ -25,13 +25,13 @@ use Rattle.writer.specs.Adding.{addFault, lay, adding}
 use Rattle.writer.specs.Closing.{closeFault, sealed, closing}
 
 -- ---- opening and closing: done exactly if no condition holds, and otherwise nothing has changed
-done-or : (b : Bool) (s w : Writer) (l line : List ℕ) (n : ℕ) → pick b (left Done s l) (left (Refused n) w line) .answer ≡ Done
+pub done-or : (b : Bool) (s w : Writer) (l line : List ℕ) (n : ℕ) → pick b (left Done s l) (left (Refused n) w line) .answer ≡ Done
     → b ≡ true
 unfolding pick
 done-or true s w l line n e = refl
 done-or false s w l line n e = absurd (let z : _≡_ {A = ℕ} 0 1 = cc in let k : ⊥ = omega arith in k)
 
-kept-or : (b : Bool) (s w : Writer) (l line : List ℕ) (n k : ℕ) → let x = pick b (left Done s l) (left (Refused n) w line) in x .answer ≡ Refused k
+pub kept-or : (b : Bool) (s w : Writer) (l line : List ℕ) (n k : ℕ) → let x = pick b (left Done s l) (left (Refused n) w line) in x .answer ≡ Refused k
     → (x .state ≡ w) × (x .line ≡ line)
 unfolding pick
 kept-or true s w l line n k e = absurd (let z : _≡_ {A = ℕ} 0 1 = cc in let f : ⊥ = omega arith in f)

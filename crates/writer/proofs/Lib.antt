@@ -6,6 +6,7 @@ pub mod Refusals
 pub mod Calls
 pub mod GroundLaws
 pub mod Keeps
+pub mod Packs
 pub mod Framing
 pub mod Legal
 pub mod Writing

@@ -23,7 +23,7 @@ use Rattle.writer.specs.Closing.{closeFault, closing}
 use Rattle.writer.specs.Numbers.{answersBy, allFits, laidBy}
 
 -- ---- opening and closing
-answer-by : (n : ℕ) (w s : Writer) (line l : List ℕ) → answerNumbers (pick (eqb n 0) (left Done s l) (left (Refused n) w line) .answer) ≡ answersBy n
+pub answer-by : (n : ℕ) (w s : Writer) (line l : List ℕ) → answerNumbers (pick (eqb n 0) (left Done s l) (left (Refused n) w line) .answer) ≡ answersBy n
 answer-by zero w s line l = ap (λ (x : Left). answerNumbers (x .answer)) (pick-true (left Done s l) (left (Refused 0) w line) refl)
 answer-by (suc n) w s line l = ap (λ (x : Left). answerNumbers (x .answer)) (pick-false (left Done s l) (left (Refused (suc n)) w line) (eqb·suc-zero n))
 

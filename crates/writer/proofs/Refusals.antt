@@ -27,7 +27,7 @@ use Rattle.course.proofs.CourseLaws.{end-in-area}
 use Rattle.writer.specs.declared.state.Rest.{Rest}
 use Rattle.writer.specs.declared.state.Rest.the-variants.{NoBlock, Part}
 use Rattle.writer.specs.declared.state.Writer.{Writer}
-use Rattle.writer.specs.State.{most, isPart, laidOf, misshapen, overlong, impossible, endIn}
+use Rattle.writer.specs.State.{most, isPart, laidOf, misshapen, overlong, overfull, impossible, endIn}
 use Rattle.writer.specs.Adding.{valued, illShaped, isFull, isOther, addFaults, addFault}
 use Rattle.writer.specs.Opening.{isNext, openBlocked, openFaults, openFault}
 use Rattle.writer.specs.Closing.{closeFaults, closeFault}
@@ -57,17 +57,19 @@ pub record Begun (w : Writer) : Type 0 where
   pub course : laws.Begun (w .system) (w .last) (w .settings) (w .place) (isPart (w .rest))
   pub shaped : misshapen (w .rest) ≡ false
   pub short : overlong (w .crc) ≡ false
+  pub gapped : overfull (w .system) (w .used) ≡ false
 
 pub begun : (w : Writer) → impossible w ≡ false → (isPart (w .rest) || isAt (w .place)) ≡ true → Begun w
 unfolding impossible
 begun w e o =
     let h = or-false (impossibleAfter (w .system) (w .last) (w .settings) (w .place) (isPart (w .rest))) _ e in
-    let held = or-false (misshapen (w .rest)) (overlong (w .crc)) (h .1) in
-    record { course = laws.begun (w .system) (w .last) (w .settings) (w .place) (isPart (w .rest)) (h .0) o; shaped = held .0; short = held .1 }
+    let held = or-false (misshapen (w .rest)) _ (h .1) in
+    let more = or-false (overlong (w .crc)) _ (held .1) in
+    record { course = laws.begun (w .system) (w .last) (w .settings) (w .place) (isPart (w .rest)) (h .0) o; shaped = held .0; short = more .0; gapped = more .1 }
 
 pub possible-by : (w : Writer) → Begun w → impossible w ≡ false
 unfolding impossible
-possible-by w b = false-or (laws.begun-possible (w .system) (w .last) (w .settings) (w .place) (isPart (w .rest)) (b .course)) (false-or (b .shaped) (b .short))
+possible-by w b = false-or (laws.begun-possible (w .system) (w .last) (w .settings) (w .place) (isPart (w .rest)) (b .course)) (false-or (b .shaped) (false-or (b .short) (b .gapped)))
 
 -- ---- an unfinished block has a word left
 laid-below : (block : ℕ) (rest : Rest) (kind n : ℕ) → (isPart rest && not (isVariable block)) ≡ false → misshapen rest ≡ false → isOther rest kind n ≡ false

@@ -43,14 +43,14 @@ module _ (w : Writer) (f v : Bool) (n : ℕ) (t : Settings) (lent : List ℕ) (k
   one-block : openFault w n t (length lent) ≡ 0 → addFault (openState w n t) (length (openWords (w .system) f v n t)) kind vs ≡ 0
       → closeFault (lay (openState w n t) (openWords (w .system) f v n t) kind vs .state) (length (lay (openState w n t) (openWords (w .system) f v n t) kind vs .line)) ≡ 0
       → let x = adding (openState w n t) (openWords (w .system) f v n t) kind vs in
-      Written w f v n t lent (closing (x .state) (x .line) .state) (closing (x .state) (x .line) .line) (pieceOf (openState w n t) (openWords (w .system) f v n t) kind vs ∷ [])
+      Written w f v n t lent (closing (x .state) (x .line) .state) (closing (x .state) (x .line) .line) (pieceOf (openState w n t) (openWords (w .system) f v n t) kind vs ∷ []) []
   one-block a b c =
       let o = open-leaves w f v n t lent a in
       record {
         open-done = ap (λ (x : Left). x .answer) o;
         last = adding at line kind vs .state;
         full = adding at line kind vs .line;
-        calls = subst (λ (x : Left). Filling (x .state) (x .line) (adding at line kind vs .state) (adding at line kind vs .line) (pieceOf at line kind vs ∷ [])) (sym o) (adds kind vs filled);
+        calls = subst (λ (x : Left). Filling (x .state) (x .line) (adding at line kind vs .state) (adding at line kind vs .line) (pieceOf at line kind vs ∷ []) []) (sym o) (adds kind vs filled);
         close-done = ap (λ (x : Added). closing (x .state) (x .line) .answer) (add-leaves at line kind vs b)
             ∙ ap (λ (x : Left). x .answer) (close-leaves (lay at line kind vs .state) (lay at line kind vs .line) c);
         state-is = refl;
@@ -131,13 +131,13 @@ shuts = ap (closeFault (lay at-20 opened-words 1 three .state)) full-long
 pub final : Left
 final = closing (adding at-20 opened-words 1 three .state) (adding at-20 opened-words 1 three .line)
 
-pub sample : Written start false false 20 settings lent (final .state) (final .line) (worked ∷ [])
+pub sample : Written start false false 20 settings lent (final .state) (final .line) (worked ∷ []) []
 unfolding at-20 opened-words final start
 sample =
-    subst (λ (p : List ℕ). Written start false false 20 settings lent (final .state) (final .line) (p ∷ []))
+    subst (λ (p : List ℕ). Written start false false 20 settings lent (final .state) (final .line) (p ∷ []) [])
     (piece-laid at-20 opened-words 1 three lays ∙ worked-laid)
     (one-block start false false 20 settings lent 1 three opens lays shuts)
 
 -- so the line is that of the definition, and the line check finds no fault in it
-pub sample-whole : Whole start false false 20 settings (worked ∷ []) (final .line)
-sample-whole = written start false false 20 settings lent (final .state) (final .line) (worked ∷ []) held sample
+pub sample-whole : Whole start false false 20 settings (worked ∷ []) [] (final .line)
+sample-whole = written start false false 20 settings lent (final .state) (final .line) (worked ∷ []) [] held sample

@@ -29,7 +29,10 @@ use Rattle.writer.specs.declared.state.Answer.{Answer}
 use Rattle.writer.specs.declared.state.Answer.the-variants.{Refused, Done}
 use Rattle.writer.specs.declared.state.Laid.{Laid}
 use Rattle.writer.specs.declared.state.Laid.the-variants.{Refused as NotLaid, Finished, Unfinished}
-use Rattle.writer.specs.State.{most, isPart, laidOf, fresh, misshapen, overlong, impossible, endIn, moved, openState}
+use Rattle.packets.specs.Listing.{gapLength}
+use Rattle.writer.specs.State.{most, isPart, laidOf, fresh, misshapen, overlong, overfull, impossible, endIn, moved, openState, usedTo}
+use Rattle.writer.specs.Packing.{packFaults, packFault, packing}
+use Rattle.writer.proofs.Packs.{can-pack}
 use Rattle.writer.specs.Block.{wordsIn}
 use Rattle.writer.specs.Answers.{answerNumbers, laidNumbers, Left, left, Added, added}
 use Rattle.writer.specs.Opening.{openFaults, openFault, opening}
@@ -47,13 +50,14 @@ moved-begun w p r c b x y z u =
       course = record { number = h .number; numbered = h .numbered; range = h .range; clean = h .clean; placed = x; varied = y };
       shaped = z;
       short = u;
+      gapped = b .gapped;
     }
 
 -- ---- opening: an unfinished block stays, with the same settings
 parts-of : (w : Writer) → impossible w ≡ false
     → (impossibleAfter (w .system) (w .last) (w .settings) (w .place) (isPart (w .rest)) ≡ false) × (misshapen (w .rest) ≡ false)
 unfolding impossible
-parts-of w e = let h = or-false _ (misshapen (w .rest) || overlong (w .crc)) e in (h .0, or-false (misshapen (w .rest)) _ (h .1) .0)
+parts-of w e = let h = or-false _ (misshapen (w .rest) || (overlong (w .crc) || overfull (w .system) (w .used))) e in (h .0, or-false (misshapen (w .rest)) _ (h .1) .0)
 
 open-begun : (w : Writer) (n : ℕ) (t : Settings) (long : ℕ) → openFault w n t long ≡ 0 → Begun (openState w n t)
 open-begun w n t long ok =
@@ -65,6 +69,7 @@ open-begun w n t long ok =
       course = begins (w .system) (w .last) (w .settings) t (w .place) (At 0) part part n (kept .0) range (o .clean) (start-placed (w .system) t (o .clean)) (λ e. (e, o .goes e .0));
       shaped = kept .1;
       short = refl;
+      gapped = le-ltb (gapLength (systemOf (w .system))) 0 (omega arith);
     }
 
 pub open-possible : (w : Writer) (f v : Bool) (n : ℕ) (t : Settings) (line : List ℕ) → impossible w ≡ false → impossible (opening w f v n t line .state) ≡ false
@@ -87,7 +92,7 @@ close-possible w line e =
 -- ---- a fresh writer
 pub fresh-possible : (system mode : ℕ) → impossible (fresh system mode) ≡ false
 unfolding impossible
-fresh-possible system mode = refl
+fresh-possible system mode = le-ltb (gapLength (systemOf system)) 0 (omega arith)
 
 -- answer 2 is of an impossible state alone
 module _ (w : Writer) (possible : impossible w ≡ false) where
@@ -101,6 +106,10 @@ module _ (w : Writer) (possible : impossible w ≡ false) where
   pub add-never-2 : (long kind : ℕ) (vs : List ℕ) → addFault w long kind vs ≡ 2 → ⊥
   unfolding addFault
   add-never-2 long kind vs e = not-given (given-holds 2 (addFaults w long kind vs) e (λ z. omega arith))
+
+  pub pack-never-2 : (long : ℕ) (vs : List ℕ) → packFault w long vs ≡ 2 → ⊥
+  unfolding packFault
+  pack-never-2 long vs e = not-given (given-holds 2 (packFaults w long vs) e (λ z. omega arith))
 
   pub close-never-2 : (long : ℕ) → closeFault w long ≡ 2 → ⊥
   unfolding closeFault
@@ -241,23 +250,38 @@ add-possible w line kind vs e =
     pick-elim (λ (x : Added). impossible (x .state) ≡ false) (eqb (addFault w (length line) kind vs) 0)
     (λ h. possible-by _ (add-begun w line kind vs (eqb-true _ _ h))) (λ h. e)
 
+-- ---- a packet
+pub pack-possible : (w : Writer) (line : List ℕ) (did second : ℕ) (vs : List ℕ) → impossible w ≡ false → impossible (packing w line did second vs .state) ≡ false
+unfolding packing
+pack-possible w line did second vs e =
+    pick-elim (λ (x : Left). impossible (x .state) ≡ false) (eqb (packFault w (length line) vs) 0)
+    (λ h.
+    let c = can-pack w line vs (eqb-true _ _ h) in
+    let b = begun w e (or-right (isPart (w .rest)) (isAt (w .place)) (c .begun)) in
+    possible-by (usedTo w (w .used + (length vs + 7)))
+    (record { course = b .course; shaped = b .shaped; short = b .short; gapped = le-ltb (gapLength (systemOf (w .system))) (w .used + (length vs + 7)) (c .room) }))
+    (λ h. e)
+
 -- ---- any calls, from a fresh writer on
 pub data Reached (system mode : ℕ) : Writer → Type 0 where
   starts : Reached system mode (fresh system mode)
   opens : {w : Writer} (f v : Bool) (n : ℕ) (t : Settings) (line : List ℕ) → Reached system mode w → Reached system mode (opening w f v n t line .state)
   lays : {w : Writer} (line : List ℕ) (kind : ℕ) (vs : List ℕ) → Reached system mode w → Reached system mode (adding w line kind vs .state)
+  packs : {w : Writer} (line : List ℕ) (did second : ℕ) (vs : List ℕ) → Reached system mode w → Reached system mode (packing w line did second vs .state)
   shuts : {w : Writer} (line : List ℕ) → Reached system mode w → Reached system mode (closing w line .state)
 
 pub reached-possible : (system mode : ℕ) (w : Writer) → Reached system mode w → impossible w ≡ false
 reached-possible system mode w starts = fresh-possible system mode
 reached-possible system mode _ (opens {w} f v n t line r) = open-possible w f v n t line (reached-possible system mode w r)
 reached-possible system mode _ (lays {w} line kind vs r) = add-possible w line kind vs (reached-possible system mode w r)
+reached-possible system mode _ (packs {w} line did second vs r) = pack-possible w line did second vs (reached-possible system mode w r)
 reached-possible system mode _ (shuts {w} line r) = close-possible w line (reached-possible system mode w r)
 
 -- so answer 2 is given to none of them
 pub record Never2 (w : Writer) : Type 0 where
   pub by-opening : (f v : Bool) (n : ℕ) (t : Settings) (line : List ℕ) → opening w f v n t line .answer ≡ Refused 2 → ⊥
   pub by-adding : (line : List ℕ) (kind : ℕ) (vs : List ℕ) → adding w line kind vs .answer ≡ NotLaid 2 → ⊥
+  pub by-packing : (line : List ℕ) (did second : ℕ) (vs : List ℕ) → packing w line did second vs .answer ≡ Refused 2 → ⊥
   pub by-closing : (line : List ℕ) → closing w line .answer ≡ Refused 2 → ⊥
 
 refused-is : (b : Bool) (s w : Writer) (l line : List ℕ) (n k : ℕ) → pick b (left Done s l) (left (Refused n) w line) .answer ≡ Refused k → n ≡ k
@@ -272,10 +296,11 @@ not-is true false s w l line n k e = absurd (omega (arith, ap (λ (a : Laid). le
 not-is false f s w l line n k e = ap (λ (a : Laid). getD (laidNumbers a) 0 0) e
 
 pub never-2 : (w : Writer) → impossible w ≡ false → Never2 w
-unfolding opening adding closing
+unfolding opening adding packing closing
 never-2 w p = record {
   by-opening = λ f v n t line e. open-never-2 w p n t (length line) (refused-is _ _ _ _ _ (openFault w n t (length line)) 2 e);
   by-adding = λ line kind vs e. add-never-2 w p (length line) kind vs (not-is _ _ _ _ _ _ (addFault w (length line) kind vs) 2 e);
+  by-packing = λ line did second vs e. pack-never-2 w p (length line) vs (refused-is _ _ _ _ _ (packFault w (length line) vs) 2 e);
   by-closing = λ line e. close-never-2 w p (length line) (refused-is _ _ _ _ _ (closeFault w (length line)) 2 e);
 }
 

@@ -22,30 +22,38 @@ use Rattle.course.specs.declared.Place.the-variants.{At}
 use Rattle.line.specs.Systems.{systemOf, isSystem}
 use Rattle.line.specs.Fixed.{isVariable}
 use Rattle.line.specs.Settings.{Held, settingsFault}
-use Rattle.line.specs.Layout.{payloadAt, areaLength, framed, lineWords}
+use Rattle.line.specs.Layout.{gapAt, payloadAt, areaLength, framed, lineWords}
 use Rattle.line.specs.Check.{legal}
+use Rattle.packets.specs.Packet.{packetWords, Packet, packed}
+use Rattle.packets.specs.Listing.{gapLength}
+use Rattle.packets.proofs.PacketBack.{packet-long}
+use Rattle.packets.proofs.ListLaws.{packed-append}
 use Rattle.course.specs.Course.{placeOf, blocksEnd}
 use Rattle.line.proofs.SystemLaws.{Sound}
+use Rattle.line.proofs.GapLaws.{GapHolds}
 use Rattle.line.proofs.Lines.{Buildable, Accepted, accepted}
 use Rattle.writer.specs.declared.state.Writer.{Writer}
-use Rattle.writer.specs.declared.state.Answer.the-variants.{Done}
+use Rattle.writer.specs.declared.state.Answer.{Answer}
+use Rattle.writer.specs.declared.state.Answer.the-variants.{Refused, Done}
 use Rattle.writer.specs.State.{laidOf, endIn}
 use Rattle.writer.specs.Answers.{Left, Added}
 use Rattle.writer.specs.Block.{wordsIn}
 use Rattle.writer.specs.Opening.{openWords, opening}
 use Rattle.writer.specs.Adding.{addFault, todo, fitting, adding}
+use Rattle.writer.specs.Packing.{packing}
 use Rattle.writer.specs.Closing.{sealed, closing}
-use Rattle.writer.specs.Filling.{pieceOf, joined, Filling, filled, adds, tries-opening, tries-closing, Written, areaFrom}
+use Rattle.writer.specs.Filling.{pieceOf, packedBy, packetOf, joined, Filling, filled, adds, packs, tries-opening, tries-closing, Written, areaFrom}
 use Rattle.writer.proofs.FillLaws.{piece-law}
 use Rattle.writer.proofs.Keeps.{open-clear, open-leaves, open-keeps, close-clear, close-leaves, close-keeps, add-leaves, add-stays}
+use Rattle.writer.proofs.Packs.{can-pack, pack-clear, pack-leaves, pack-keeps, pasted-gap}
 use Rattle.writer.proofs.Framing.{front, front-length, framed-front, pasted, seals}
 use Rattle.writer.proofs.Legal.{each-take, each-drop, each-filler, filler-legal, words-legal}
 use Rattle.line.proofs.AreaLaws.{area-most}
 use Rattle.course.proofs.CourseLaws.{end-in-area}
 use Rattle.writer.proofs.Refusals.{CanOpen, can-open, can-add}
 
--- what holds of an open line, and of the state, while a has been laid
-pub record Open (system mode : ℕ) (f v : Bool) (n : ℕ) (t : Settings) (a : List ℕ) (w : Writer) (line : List ℕ) : Type 0 where
+-- what holds of an open line, and of the state, while gs has been laid in its gap and a in its area
+pub record Open (system mode : ℕ) (f v : Bool) (n : ℕ) (t : Settings) (gs a : List ℕ) (w : Writer) (line : List ℕ) : Type 0 where
   pub of-system : w .system ≡ system
   pub of-mode : w .mode ≡ mode
   pub of-settings : w .settings ≡ t
@@ -53,7 +61,9 @@ pub record Open (system mode : ℕ) (f v : Bool) (n : ℕ) (t : Settings) (a : L
   pub within : length a ≤ areaLength (systemOf system .payload) (t .flag)
   pub words : each (legal mode (isVariable (t .block))) a ≡ true
   pub summed : w .crc ≡ crcOf crcStart a
-  pub is : line ≡ framed (systemOf system) f v n t [] (a ++ replicate (systemOf system .payload - length a) 0x200)
+  pub of-used : w .used ≡ length gs
+  pub holds : GapHolds (systemOf system) gs
+  pub is : line ≡ framed (systemOf system) f v n t gs (a ++ replicate (systemOf system .payload - length a) 0x200)
 
 -- which way a test goes
 pub either : (n : ℕ) → (n ≡ 0) ⊎ (n ≡ 0 → ⊥)
@@ -64,12 +74,12 @@ either (suc n) = inr (λ e. omega arith)
 module _ (system mode : ℕ) (f v : Bool) (n : ℕ) (t : Settings) (held : Held t) (known : isSystem system ≡ true) (row : Sound (systemOf system))
     (clean : settingsFault system t ≡ 0) where
   -- what the line is before the payload, and where the payload starts
-  before : List ℕ
-  before = front (systemOf system) f v n t []
+  before : List ℕ → List ℕ
+  before gs = front (systemOf system) f v n t gs
 
-  before-long : length before ≡ payloadAt (systemOf system)
+  before-long : (gs : List ℕ) → GapHolds (systemOf system) gs → length (before gs) ≡ payloadAt (systemOf system)
   unfolding before
-  before-long = front-length (systemOf system) f v n t [] held (row .room) (omega arith)
+  before-long gs holds = front-length (systemOf system) f v n t gs held (row .room) holds
 
   ends-in : (w : Writer) → w .system ≡ system → w .settings ≡ t → endIn w ≤ areaLength (systemOf system .payload) (t .flag)
   ends-in w es et =
@@ -77,19 +87,19 @@ module _ (system mode : ℕ) (f v : Bool) (n : ℕ) (t : Settings) (held : Held 
       (sym (ap₂ (λ (s : ℕ) (u : Settings). blocksEnd (systemOf s .payload) (u .block) (u .flag)) es et)) (end-in-area system t known clean)
 
   -- what was laid stands from the payload's start to the place, and the CRC is that of these words
-  pub stands : (a : List ℕ) (w : Writer) (line : List ℕ) → Open system mode f v n t a w line → part (payloadAt (systemOf system)) (placeOf (w .place)) line ≡ a
+  pub stands : (gs a : List ℕ) (w : Writer) (line : List ℕ) → Open system mode f v n t gs a w line → part (payloadAt (systemOf system)) (placeOf (w .place)) line ≡ a
   unfolding before
-  stands a w line o =
+  stands gs a w line o =
       let fill : List ℕ = replicate (systemOf system .payload - length a) 0x200 in
-      ap₂ (λ (p : Place) (l : List ℕ). part (payloadAt (systemOf system)) (placeOf p) l) (o .of-place) (o .is ∙ framed-front (systemOf system) f v n t [] (a ++ fill))
-      ∙ ap (take (length a)) (drop-at before (a ++ fill) (payloadAt (systemOf system)) before-long)
+      ap₂ (λ (p : Place) (l : List ℕ). part (payloadAt (systemOf system)) (placeOf p) l) (o .of-place) (o .is ∙ framed-front (systemOf system) f v n t gs (a ++ fill))
+      ∙ ap (take (length a)) (drop-at (before gs) (a ++ fill) (payloadAt (systemOf system)) (before-long gs (o .holds)))
       ∙ take-at a fill (length a) refl
 
-  pub summed-there : (a : List ℕ) (w : Writer) (line : List ℕ) → Open system mode f v n t a w line
+  pub summed-there : (gs a : List ℕ) (w : Writer) (line : List ℕ) → Open system mode f v n t gs a w line
       → w .crc ≡ crcOf crcStart (part (payloadAt (systemOf system)) (placeOf (w .place)) line)
-  summed-there a w line o = o .summed ∙ ap (crcOf crcStart) (sym (stands a w line o))
+  summed-there gs a w line o = o .summed ∙ ap (crcOf crcStart) (sym (stands gs a w line o))
 
-  module _ (a : List ℕ) (w : Writer) (line : List ℕ) (o : Open system mode f v n t a w line) (kind : ℕ) (vs : List ℕ)
+  module _ (gs a : List ℕ) (w : Writer) (line : List ℕ) (o : Open system mode f v n t gs a w line) (kind : ℕ) (vs : List ℕ)
       (ok : addFault w (length line) kind vs ≡ 0) where
     abbrev ws : List ℕ
     ws = todo w kind vs
@@ -116,14 +126,14 @@ module _ (system mode : ℕ) (f v : Bool) (n : ℕ) (t : Settings) (held : Held 
         let end = ends-in w (o .of-system) (o .of-settings) in
         omega (arith, place-is, can-add w line kind vs ok .room)
 
-    line-now : line ≡ before ++ (a ++ replicate (systemOf system .payload - length a) 0x200)
+    line-now : line ≡ before gs ++ (a ++ replicate (systemOf system .payload - length a) 0x200)
     unfolding before
-    line-now = o .is ∙ framed-front (systemOf system) f v n t [] _
+    line-now = o .is ∙ framed-front (systemOf system) f v n t gs _
 
-    at-is : payloadAt (systemOf (w .system)) + placeOf (w .place) ≡ length before + length a
-    at-is = ap₂ (λ (s p : ℕ). payloadAt (systemOf s) + p) (o .of-system) place-is ∙ ap (λ (x : ℕ). x + length a) (sym before-long)
+    at-is : payloadAt (systemOf (w .system)) + placeOf (w .place) ≡ length (before gs) + length a
+    at-is = ap₂ (λ (s p : ℕ). payloadAt (systemOf s) + p) (o .of-system) place-is ∙ ap (λ (x : ℕ). x + length a) (sym (before-long gs (o .holds)))
 
-    after-line : adding w line kind vs .line ≡ framed (systemOf system) f v n t [] ((a ++ laid) ++ replicate (systemOf system .payload - length (a ++ laid)) 0x200)
+    after-line : adding w line kind vs .line ≡ framed (systemOf system) f v n t gs ((a ++ laid) ++ replicate (systemOf system .payload - length (a ++ laid)) 0x200)
     unfolding laid before
     after-line =
         let p = systemOf system .payload in
@@ -131,9 +141,9 @@ module _ (system mode : ℕ) (f v : Bool) (n : ℕ) (t : Settings) (held : Held 
         let rest : p - length a - fitting w ws ≡ p - length (a ++ laid) = omega arith in
         ap (λ (x : Added). x .line) (add-leaves w line kind vs ok)
         ∙ ap₂ (λ (l : List ℕ) (i : ℕ). paste l i (todo w kind vs) (fitting w (todo w kind vs))) line-now at-is
-        ∙ pasted before a (todo w kind vs) (p - length a) 0x200 (fitting w (todo w kind vs)) k-most
-        ∙ ap (λ (m : ℕ). before ++ ((a ++ laid) ++ replicate m 0x200)) rest
-        ∙ sym (framed-front (systemOf system) f v n t [] _)
+        ∙ pasted (before gs) a (todo w kind vs) (p - length a) 0x200 (fitting w (todo w kind vs)) k-most
+        ∙ ap (λ (m : ℕ). before gs ++ ((a ++ laid) ++ replicate m 0x200)) rest
+        ∙ sym (framed-front (systemOf system) f v n t gs _)
 
     after-place : adding w line kind vs .state .place ≡ At (length a + k)
     after-place = ap (λ (x : Added). x .state .place) (add-leaves w line kind vs ok) ∙ ap (λ (p : ℕ). At (p + k)) place-is
@@ -146,10 +156,10 @@ module _ (system mode : ℕ) (f v : Bool) (n : ℕ) (t : Settings) (held : Held 
         ∙ ap (λ (c : ℕ). crcOf c (take (fitting w (todo w kind vs)) (todo w kind vs))) (o .summed)
         ∙ sym (crc-append crcStart a (take (fitting w (todo w kind vs)) (todo w kind vs)))
 
-    long-line : length before + length a ≤ length line
+    long-line : length (before gs) + length a ≤ length line
     long-line =
         let p = systemOf system .payload in
-        let e = ap length line-now ∙ length-append before (a ++ replicate (p - length a) 0x200) in
+        let e = ap length line-now ∙ length-append (before gs) (a ++ replicate (p - length a) 0x200) in
         let g = length-append a (replicate (p - length a) 0x200) in
         omega arith
 
@@ -168,10 +178,10 @@ module _ (system mode : ℕ) (f v : Bool) (n : ℕ) (t : Settings) (held : Held 
         ∙ words-legal (w .settings .block) (w .mode) kind vs (x .values) in
         each-take _ (fitting w (todo w kind vs)) (todo w kind vs) (each-drop _ (laidOf (w .rest)) (wordsIn (w .settings .block) (w .mode) kind vs) words)
 
-    pub laid-on : Open system mode f v n t (a ++ pieceOf w line kind vs) (adding w line kind vs .state) (adding w line kind vs .line)
+    pub laid-on : Open system mode f v n t gs (a ++ pieceOf w line kind vs) (adding w line kind vs .state) (adding w line kind vs .line)
     laid-on =
         let long : length (a ++ laid) ≡ length a + k = length-append a laid ∙ ap (λ (x : ℕ). length a + x) laid-long in
-        subst (λ (l : List ℕ). Open system mode f v n t (a ++ l) (adding w line kind vs .state) (adding w line kind vs .line)) (sym piece-is)
+        subst (λ (l : List ℕ). Open system mode f v n t gs (a ++ l) (adding w line kind vs .state) (adding w line kind vs .line)) (sym piece-is)
         (record {
           of-system = ap (λ (x : Added). x .state .system) (add-leaves w line kind vs ok) ∙ o .of-system;
           of-mode = ap (λ (x : Added). x .state .mode) (add-leaves w line kind vs ok) ∙ o .of-mode;
@@ -180,6 +190,8 @@ module _ (system mode : ℕ) (f v : Bool) (n : ℕ) (t : Settings) (held : Held 
           within = subst (λ (x : ℕ). x ≤ areaLength (systemOf system .payload) (t .flag)) (sym long) fits-in;
           words = each-append _ a laid (o .words) laid-legal;
           summed = after-crc;
+          of-used = ap (λ (x : Added). x .state .used) (add-leaves w line kind vs ok) ∙ o .of-used;
+          holds = o .holds;
           is = after-line;
         })
 
@@ -196,40 +208,83 @@ module _ (system mode : ℕ) (f v : Bool) (n : ℕ) (t : Settings) (held : Held 
         (s, ap (λ (x : Added). x .line) e),
       )
 
-  step-by : (a : List ℕ) (w : Writer) (line : List ℕ) → Open system mode f v n t a w line → (kind : ℕ) (vs : List ℕ)
-      → Open system mode f v n t (a ++ pieceOf w line kind vs) (adding w line kind vs .state) (adding w line kind vs .line)
-  step-by a w line o kind vs =
-      ⊎-elim (λ ok. laid-on a w line o kind vs ok)
+  step-by : (gs a : List ℕ) (w : Writer) (line : List ℕ) → Open system mode f v n t gs a w line → (kind : ℕ) (vs : List ℕ)
+      → Open system mode f v n t gs (a ++ pieceOf w line kind vs) (adding w line kind vs .state) (adding w line kind vs .line)
+  step-by gs a w line o kind vs =
+      ⊎-elim (λ ok. laid-on gs a w line o kind vs ok)
       (λ h.
       let e = nothing-laid w line kind vs h in
       let a′ : a ≡ a ++ pieceOf w line kind vs = sym (ap (λ (l : List ℕ). a ++ l) (e .0) ∙ append-nil a) in
-      subst (λ (l : List ℕ). Open system mode f v n t l (adding w line kind vs .state) (adding w line kind vs .line)) a′
-      (subst (λ (u : Writer). Open system mode f v n t a u (adding w line kind vs .line)) (sym (e .1 .0))
-      (subst (λ (l : List ℕ). Open system mode f v n t a w l) (sym (e .1 .1)) o)))
+      subst (λ (l : List ℕ). Open system mode f v n t gs l (adding w line kind vs .state) (adding w line kind vs .line)) a′
+      (subst (λ (u : Writer). Open system mode f v n t gs a u (adding w line kind vs .line)) (sym (e .1 .0))
+      (subst (λ (l : List ℕ). Open system mode f v n t gs a w l) (sym (e .1 .1)) o)))
       (either (addFault w (length line) kind vs))
 
+  -- ---- a packet
+  pub packs-by : (gs a : List ℕ) (w : Writer) (line : List ℕ) → Open system mode f v n t gs a w line → (did second : ℕ) (vs : List ℕ)
+      → (x : Answer) → packing w line did second vs .answer ≡ x
+      → Open system mode f v n t (gs ++ packed (packedBy x did second vs)) a (packing w line did second vs .state) (packing w line did second vs .line)
+  packs-by gs a w line o did second vs (Refused k) e =
+      let z = pack-keeps w line did second vs k e in
+      subst (λ (l : List ℕ). Open system mode f v n t l a (packing w line did second vs .state) (packing w line did second vs .line)) (sym (append-nil gs))
+      (subst (λ (u : Writer). Open system mode f v n t gs a u (packing w line did second vs .line)) (sym (z .0)) (subst (λ (l : List ℕ). Open system mode f v n t gs a w l) (sym (z .1)) o))
+  packs-by gs a w line o did second vs Done e =
+      let ok = pack-clear w line did second vs e in
+      let is = pack-leaves w line did second vs ok in
+      let ws = packetWords did second vs in
+      let long = packet-long did second vs in
+      let room : length gs + length ws ≤ gapLength (systemOf system) =
+      subst (λ (x : ℕ). x ≤ gapLength (systemOf system)) (ap₂ _+_ (o .of-used) (sym long))
+      (subst (λ (s : ℕ). w .used + (length vs + 7) ≤ gapLength (systemOf s)) (o .of-system) (can-pack w line vs ok .room)) in
+      subst (λ (l : List ℕ). Open system mode f v n t (gs ++ l) a (packing w line did second vs .state) (packing w line did second vs .line)) (sym (append-nil ws))
+      (record {
+        of-system = ap (λ (x : Left). x .state .system) is ∙ o .of-system;
+        of-mode = ap (λ (x : Left). x .state .mode) is ∙ o .of-mode;
+        of-settings = ap (λ (x : Left). x .state .settings) is ∙ o .of-settings;
+        of-place = ap (λ (x : Left). x .state .place) is ∙ o .of-place;
+        within = o .within;
+        words = o .words;
+        summed = ap (λ (x : Left). x .state .crc) is ∙ o .summed;
+        of-used = ap (λ (x : Left). x .state .used) is ∙ ap₂ _+_ (o .of-used) (sym long) ∙ sym (length-append gs ws);
+        holds = subst (λ (x : ℕ). x ≤ gapLength (systemOf system)) (sym (length-append gs ws)) room;
+        is =
+            ap (λ (x : Left). x .line) is
+            ∙ ap₂ (λ (u k : ℕ). paste line (gapAt + u) ws k) (o .of-used) (sym long)
+            ∙ ap (λ (l : List ℕ). paste l (gapAt + length gs) ws (length ws)) (o .is)
+            ∙ pasted-gap (systemOf system) f v n t held gs ws (a ++ replicate (systemOf system .payload - length a) 0x200) room;
+      })
+
+  pub packet-on : (gs a : List ℕ) (w : Writer) (line : List ℕ) → Open system mode f v n t gs a w line → (did second : ℕ) (vs : List ℕ)
+      → Open system mode f v n t (gs ++ packed (packetOf w line did second vs)) a (packing w line did second vs .state) (packing w line did second vs .line)
+  packet-on gs a w line o did second vs = packs-by gs a w line o did second vs (packing w line did second vs .answer) refl
+
   -- ---- any calls
-  pub filling : (a : List ℕ) (w : Writer) (line : List ℕ) (w′ : Writer) (line′ : List ℕ) (ps : List (List ℕ)) → Filling w line w′ line′ ps
-      → Open system mode f v n t a w line → Open system mode f v n t (a ++ joined ps) w′ line′
-  filling a w line _ _ _ filled o = subst (λ (l : List ℕ). Open system mode f v n t l w line) (sym (append-nil a)) o
-  filling a w line w′ line′ _ (adds {ps = ps} kind vs more) o =
-      subst (λ (l : List ℕ). Open system mode f v n t l w′ line′) (append-assoc a (pieceOf w line kind vs) (joined ps))
-      (filling (a ++ pieceOf w line kind vs) _ _ w′ line′ ps more (step-by a w line o kind vs))
-  filling a w line w′ line′ ps (tries-opening f′ v′ n′ t′ k e more) o =
+  pub filling : (gs a : List ℕ) (w : Writer) (line : List ℕ) (w′ : Writer) (line′ : List ℕ) (ps : List (List ℕ)) (qs : List Packet) → Filling w line w′ line′ ps qs
+      → Open system mode f v n t gs a w line → Open system mode f v n t (gs ++ packed qs) (a ++ joined ps) w′ line′
+  filling gs a w line _ _ _ _ filled o =
+      subst (λ (l : List ℕ). Open system mode f v n t (gs ++ []) l w line) (sym (append-nil a)) (subst (λ (l : List ℕ). Open system mode f v n t l a w line) (sym (append-nil gs)) o)
+  filling gs a w line w′ line′ _ qs (adds {ps = ps} kind vs more) o =
+      subst (λ (l : List ℕ). Open system mode f v n t (gs ++ packed qs) l w′ line′) (append-assoc a (pieceOf w line kind vs) (joined ps))
+      (filling gs (a ++ pieceOf w line kind vs) _ _ w′ line′ ps qs more (step-by gs a w line o kind vs))
+  filling gs a w line w′ line′ ps _ (packs {qs = qs} did second vs more) o =
+      let q = packetOf w line did second vs in
+      subst (λ (l : List ℕ). Open system mode f v n t l (a ++ joined ps) w′ line′) (append-assoc gs (packed q) (packed qs) ∙ ap (λ (l : List ℕ). gs ++ l) (sym (packed-append q qs)))
+      (filling (gs ++ packed q) a _ _ w′ line′ ps qs more (packet-on gs a w line o did second vs))
+  filling gs a w line w′ line′ ps qs (tries-opening f′ v′ n′ t′ k e more) o =
       let z = open-keeps w f′ v′ n′ t′ line k e in
-      filling a _ _ w′ line′ ps more
-      (subst (λ (u : Writer). Open system mode f v n t a u (opening w f′ v′ n′ t′ line .line)) (sym (z .0)) (subst (λ (l : List ℕ). Open system mode f v n t a w l) (sym (z .1)) o))
-  filling a w line w′ line′ ps (tries-closing k e more) o =
+      filling gs a _ _ w′ line′ ps qs more
+      (subst (λ (u : Writer). Open system mode f v n t gs a u (opening w f′ v′ n′ t′ line .line)) (sym (z .0)) (subst (λ (l : List ℕ). Open system mode f v n t gs a w l) (sym (z .1)) o))
+  filling gs a w line w′ line′ ps qs (tries-closing k e more) o =
       let z = close-keeps w line k e in
-      filling a _ _ w′ line′ ps more
-      (subst (λ (u : Writer). Open system mode f v n t a u (closing w line .line)) (sym (z .0)) (subst (λ (l : List ℕ). Open system mode f v n t a w l) (sym (z .1)) o))
+      filling gs a _ _ w′ line′ ps qs more
+      (subst (λ (u : Writer). Open system mode f v n t gs a u (closing w line .line)) (sym (z .0)) (subst (λ (l : List ℕ). Open system mode f v n t gs a w l) (sym (z .1)) o))
 
 sum-back : (a k : ℕ) → a ≤ k → a + (k - a) ≡ k
 sum-back a k h = omega arith
 
 -- ---- a line opened: nothing is laid yet
 pub opened-line : (w : Writer) (f v : Bool) (n : ℕ) (t : Settings) (lent : List ℕ) → opening w f v n t lent .answer ≡ Done
-    → Open (w .system) (w .mode) f v n t [] (opening w f v n t lent .state) (opening w f v n t lent .line)
+    → Open (w .system) (w .mode) f v n t [] [] (opening w f v n t lent .state) (opening w f v n t lent .line)
 unfolding openWords
 opened-line w f v n t lent done =
     let e = open-leaves w f v n t lent (open-clear w f v n t lent done) in
@@ -241,22 +296,24 @@ opened-line w f v n t lent done =
       within = omega arith;
       words = refl;
       summed = ap (λ (x : Left). x .state .crc) e ∙ sym (crc-none crcStart (lit< tt));
+      of-used = ap (λ (x : Left). x .state .used) e;
+      holds = omega arith;
       is = ap (λ (x : Left). x .line) e
           ∙ ap (λ (m : ℕ). framed (systemOf (w .system)) f v n t [] (replicate m 0x200)) (sym (sub-zero (systemOf (w .system) .payload)));
     }
 
 -- ---- an open line closed
 module _ (system mode : ℕ) (f v : Bool) (n : ℕ) (t : Settings) (held : Held t) (known : isSystem system ≡ true) (moded : isMode mode ≡ true)
-    (row : Sound (systemOf system)) (clean : settingsFault system t ≡ 0) (one : 1 ≤ n) (last : n ≤ systemOf system .lines) (ps : List (List ℕ)) (w : Writer)
-    (line : List ℕ) (o : Open system mode f v n t (joined ps) w line) (done : closing w line .answer ≡ Done) where
+    (row : Sound (systemOf system)) (clean : settingsFault system t ≡ 0) (one : 1 ≤ n) (last : n ≤ systemOf system .lines) (gs : List ℕ) (ps : List (List ℕ)) (w : Writer)
+    (line : List ℕ) (o : Open system mode f v n t gs (joined ps) w line) (done : closing w line .answer ≡ Done) where
   -- it is the line of the definition
-  pub closed-line : closing w line .line ≡ lineWords (systemOf system) f v n t [] (areaFrom (systemOf system .payload) (t .flag) ps)
+  pub closed-line : closing w line .line ≡ lineWords (systemOf system) f v n t gs (areaFrom (systemOf system .payload) (t .flag) ps)
   unfolding areaFrom
   closed-line =
       ap (λ (x : Left). x .line) (close-leaves w line (close-clear w line done))
       ∙ ap₂ (λ (s : ℕ) (u : Settings). sealed (systemOf s) (u .flag) (placeOf (w .place)) (w .crc) line) (o .of-system) (o .of-settings)
       ∙ ap₂ (λ (p : Place) (l : List ℕ). sealed (systemOf system) (t .flag) (placeOf p) (w .crc) l) (o .of-place) (o .is)
-      ∙ seals (systemOf system) f v n t [] held (row .room) (omega arith) (joined ps) (w .crc) (o .within) (area-most (systemOf system .payload) (t .flag)) (o .summed)
+      ∙ seals (systemOf system) f v n t gs held (row .room) (o .holds) (joined ps) (w .crc) (o .within) (area-most (systemOf system .payload) (t .flag)) (o .summed)
 
   buildable : Buildable system mode n t (areaFrom (systemOf system .payload) (t .flag) ps)
   unfolding areaFrom
@@ -282,30 +339,30 @@ module _ (system mode : ℕ) (f v : Bool) (n : ℕ) (t : Settings) (held : Held 
   pub closed-accepted : Accepted system mode n t (areaFrom (systemOf system .payload) (t .flag) ps) (closing w line .line)
   closed-accepted =
       subst (λ (l : List ℕ). Accepted system mode n t (areaFrom (systemOf system .payload) (t .flag) ps) l) (sym closed-line)
-      (accepted system mode f v n t [] (areaFrom (systemOf system .payload) (t .flag) ps) (omega arith) buildable)
+      (accepted system mode f v n t gs (areaFrom (systemOf system .payload) (t .flag) ps) (o .holds) buildable)
 
 -- ---- a line opened, filled and closed
 -- what it is, and that the line check of its system and mode finds no fault in it and reads back its number, settings and area
-pub record Whole (w : Writer) (f v : Bool) (n : ℕ) (t : Settings) (ps : List (List ℕ)) (line : List ℕ) : Type 0 where
-  pub is : line ≡ lineWords (systemOf (w .system)) f v n t [] (areaFrom (systemOf (w .system) .payload) (t .flag) ps)
+pub record Whole (w : Writer) (f v : Bool) (n : ℕ) (t : Settings) (ps : List (List ℕ)) (qs : List Packet) (line : List ℕ) : Type 0 where
+  pub is : line ≡ lineWords (systemOf (w .system)) f v n t (packed qs) (areaFrom (systemOf (w .system) .payload) (t .flag) ps)
   pub fits : length (joined ps) ≤ areaLength (systemOf (w .system) .payload) (t .flag)
   pub accepts : Accepted (w .system) (w .mode) n t (areaFrom (systemOf (w .system) .payload) (t .flag) ps) line
 
-module _ (w : Writer) (f v : Bool) (n : ℕ) (t : Settings) (lent : List ℕ) (w′ : Writer) (line : List ℕ) (ps : List (List ℕ)) (held : Held t)
-    (c : Written w f v n t lent w′ line ps) where
+module _ (w : Writer) (f v : Bool) (n : ℕ) (t : Settings) (lent : List ℕ) (w′ : Writer) (line : List ℕ) (ps : List (List ℕ)) (qs : List Packet) (held : Held t)
+    (c : Written w f v n t lent w′ line ps qs) where
   start : CanOpen w n t (length lent)
   start = can-open w n t (length lent) (open-clear w f v n t lent (c .open-done))
 
-  filled-line : Open (w .system) (w .mode) f v n t (joined ps) (c .last) (c .full)
+  filled-line : Open (w .system) (w .mode) f v n t (packed qs) (joined ps) (c .last) (c .full)
   filled-line =
-      filling (w .system) (w .mode) f v n t held (start .known) (start .row) (start .clean) [] _ _ (c .last) (c .full) ps (c .calls)
+      filling (w .system) (w .mode) f v n t held (start .known) (start .row) (start .clean) [] [] _ _ (c .last) (c .full) ps qs (c .calls)
       (opened-line w f v n t lent (c .open-done))
 
-  pub written : Whole w f v n t ps line
+  pub written : Whole w f v n t ps qs line
   written =
-      let law = closed-line (w .system) (w .mode) f v n t held (start .known) (start .moded) (start .row) (start .clean) (start .one) (start .last) ps
+      let law = closed-line (w .system) (w .mode) f v n t held (start .known) (start .moded) (start .row) (start .clean) (start .one) (start .last) (packed qs) ps
       (c .last) (c .full) filled-line (c .close-done) in
-      let check = closed-accepted (w .system) (w .mode) f v n t held (start .known) (start .moded) (start .row) (start .clean) (start .one) (start .last) ps
+      let check = closed-accepted (w .system) (w .mode) f v n t held (start .known) (start .moded) (start .row) (start .clean) (start .one) (start .last) (packed qs) ps
       (c .last) (c .full) filled-line (c .close-done) in
       record {
         is = c .line-is ∙ law;

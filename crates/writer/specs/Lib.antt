@@ -4,6 +4,7 @@ pub mod Answers
 pub mod Opening
 pub mod Adding
 pub mod Numbers
+pub mod Packing
 pub mod Closing
 pub mod Filling
 pub mod Batch

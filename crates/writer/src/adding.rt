@@ -64,7 +64,7 @@ fn is_valued(mode: u8, values: &[u16]) -> bool
 }
 
 // Each value is below the limit. Every value is looked at, so that the loop has no early exit.
-fn all_below(limit: u16, s: &[u16]) -> bool
+pub(crate) fn all_below(limit: u16, s: &[u16]) -> bool
     ensures { λ r. ⌜ r ≡ each (λ v. ltb v limit) (now (s .entry)) ⌝ }
 {
     let mut ok = true;
@@ -123,7 +123,11 @@ pub(crate) fn ask(w: Writer, long: usize) -> Asked
     let s = systems::system_of(w.system);
     let start = lists::minus_or_zero(s.length, s.payload);
     let x = course::look(w.system, last, settings, place, state::is_part(rest));
-    let r2 = lists::or_else(x.impossible | state::is_misheld(rest, w.crc), 2, 0);
+    let r2 = lists::or_else(
+        x.impossible | state::is_misheld(w.system, rest, w.crc, w.used),
+        2,
+        0,
+    );
     Asked {
         fault: lists::or_else(!check::is_fit(w.system, w.mode, long), 1, r2),
         ground: Ground {

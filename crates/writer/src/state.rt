@@ -3,10 +3,11 @@ use course::Last;
 use course::Place;
 use line::settings;
 use line::settings::Settings;
+use packets::list;
 use words::crc;
 ghost use mathlib.Core.Path.{_≡_};
 ghost use mathlib.Core.Bool.{_||_};
-ghost use Rattle.writer.specs.State.{isPart, laidOf, fresh, misshapen, overlong, impossible, endIn, openState, moved};
+ghost use Rattle.writer.specs.State.{isPart, laidOf, fresh, misshapen, overlong, overfull, impossible, endIn, openState, moved, usedTo};
 
 // An unfinished block: its type, n and the words laid (1 to n+6).
 pub enum Rest {
@@ -14,7 +15,7 @@ pub enum Rest {
     Part { kind: u8, count: u16, laid: u16 },
 }
 
-// crc is that of the area words laid so far in this line.
+// crc is that of the area words laid so far in this line, and used counts the words of its gap in which packets stand. Closing keeps used.
 pub struct Writer {
     pub system: u8,
     pub mode: u8,
@@ -23,6 +24,7 @@ pub struct Writer {
     pub place: Place,
     pub rest: Rest,
     pub crc: u32,
+    pub used: u16,
 }
 
 // What opening and closing answer.
@@ -51,10 +53,11 @@ pub fn fresh_writer(system: u8, mode: u8) -> Writer
         place: Place::Shut,
         rest: Rest::NoBlock,
         crc: crc::CRC_START,
+        used: 0,
     }
 }
 
-// The state of an opened line, at its first word, none laid.
+// The state of an opened line, at its first word, none laid and none of the gap used.
 pub(crate) fn opened(w: Writer, n: u16, t: Settings) -> Writer
     ensures { λ r. ⌜ r ≡ openState w n t ⌝ }
 {
@@ -67,6 +70,7 @@ pub(crate) fn opened(w: Writer, n: u16, t: Settings) -> Writer
         place: Place::At(0),
         rest: rest,
         crc: crc::CRC_START,
+        used: 0,
     }
 }
 
@@ -84,6 +88,27 @@ pub(crate) fn moved(w: Writer, place: Place, rest: Rest, crc: u32) -> Writer
         place: place,
         rest: rest,
         crc: crc,
+        used: w.used,
+    }
+}
+
+// The state with more words of the gap used.
+pub(crate) fn used_to(w: Writer, used: u16) -> Writer
+    ensures { λ r. ⌜ r ≡ usedTo w used ⌝ }
+{
+    let last = w.last;
+    let settings = w.settings;
+    let place = w.place;
+    let rest = w.rest;
+    Writer {
+        system: w.system,
+        mode: w.mode,
+        last: last,
+        settings: settings,
+        place: place,
+        rest: rest,
+        crc: w.crc,
+        used: used,
     }
 }
 
@@ -129,11 +154,12 @@ fn is_misshapen(rest: Rest) -> bool
     }
 }
 
-// The unfinished block is misshapen, or the CRC above 18 bits.
-pub(crate) fn is_misheld(rest: Rest, crc: u32) -> bool
-    ensures { λ r. ⌜ r ≡ (misshapen rest || overlong crc) ⌝ }
+// The unfinished block is misshapen, the CRC above 18 bits, or more of the gap used than there is.
+pub(crate) fn is_misheld(system: u8, rest: Rest, crc: u32, used: u16) -> bool
+    ensures { λ r. ⌜ r ≡ (misshapen rest || (overlong crc || overfull system used)) ⌝ }
 {
-    is_misshapen(rest) | (262144 <= crc)
+    let gap = list::gap_length(system);
+    is_misshapen(rest) | ((262144 <= crc) | (gap < used as usize))
 }
 
 // No writer can have come into this state.
@@ -145,7 +171,7 @@ pub fn is_impossible(w: Writer) -> bool
     let place = w.place;
     let rest = w.rest;
     let lines = course::is_impossible(w.system, last, settings, place, is_part(rest));
-    lines | is_misheld(rest, w.crc)
+    lines | is_misheld(w.system, rest, w.crc, w.used)
 }
 
 // The words of the open line's area in which blocks may stand.

@@ -21,4 +21,5 @@ next-line-spec =
     (need tie.Need-slice-aggregate-words-of-2 (λ c. search needs)) (need tie.Need-words-of-requires (λ c κs. search needs))
     (need tie.Need-slice-aggregate-list-line (λ c. search needs)) (need tie.Need-list-line-requires (λ c κs. search needs))
     slice-reshare-prefix-write-text slice-aggregate-write-text (need tie.Need-write-text-requires (λ c κs. search needs))
+    (need tie.Need-list-gap-requires (λ c κs. search needs))
     (need tie.Need-same-length-2 (λ c. search needs)) (need tie.Need-returns-2 (λ c. search needs)))

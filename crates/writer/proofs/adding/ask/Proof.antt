@@ -7,7 +7,7 @@ use Rattle.lists.proofs.Refusals.{LowestOf, low-none, low-step}
 use Rattle.line.specs.declared.systems.System.{System}
 use Rattle.course.specs.Course.{impossibleAfter}
 use Rattle.writer.specs.declared.state.Writer.{Writer}
-use Rattle.writer.specs.State.{isPart, misshapen, overlong, impossible}
+use Rattle.writer.specs.State.{isPart, misshapen, overlong, overfull, impossible}
 use Rattle.writer.specs.Batch.{batchFaults, batchFault}
 use borrow.Author.Needs.{needs}
 use Rattle.writer.proofs.adding.ask.Statement.{statement}
@@ -15,7 +15,7 @@ use Rattle.writer.proofs.adding.ask.Tie as tie
 
 -- the test of the state, by what the look found
 impossible-by : (w : Writer) (i b m : Bool) → i ≡ impossibleAfter (w .system) (w .last) (w .settings) (w .place) b → b ≡ isPart (w .rest)
-    → m ≡ (misshapen (w .rest) || overlong (w .crc)) → (i || m) ≡ impossible w
+    → m ≡ (misshapen (w .rest) || (overlong (w .crc) || overfull (w .system) (w .used))) → (i || m) ≡ impossible w
 unfolding impossible
 impossible-by w i b m e f g = ap₂ _||_ (e ∙ ap (λ (b : Bool). impossibleAfter (w .system) (w .last) (w .settings) (w .place) b) f) g
 

@@ -9,7 +9,7 @@ use lib.Seq.{length-take-le}
 use Rattle.words.specs.Forms.{byteWord}
 use Rattle.words.specs.Modes.{wordOf}
 use Rattle.writer.specs.Block.{fixedWords}
-use Rattle.writer.proofs.Frame.{second-long, by-two}
+use Rattle.packets.proofs.Parts.{second-long, by-two}
 use borrow.Author.Needs.{needs}
 use Rattle.writer.proofs.block.lay_fixed.Statement.{statement}
 use Rattle.writer.proofs.block.lay_fixed.Tie as tie

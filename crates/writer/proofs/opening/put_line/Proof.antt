@@ -10,7 +10,8 @@ use lib.Seq.{length-take-le}
 use Rattle.line.specs.Timing.{timingWords}
 use Rattle.line.specs.Header.{headerWords}
 use Rattle.line.specs.Layout.{gapWords}
-use Rattle.writer.proofs.Frame.{by-two, header-room, whole-line}
+use Rattle.packets.proofs.Parts.{by-two}
+use Rattle.writer.proofs.Frame.{header-room, whole-line}
 use borrow.Author.Needs.{needs}
 use Rattle.writer.proofs.opening.put_line.Statement.{statement}
 use Rattle.writer.proofs.opening.put_line.Tie as tie

@@ -6,7 +6,7 @@ use Prim.Native.Nat.{ℕ}
 use lib.ListN.{length, replicate}
 use lib.Seq.{length-take-le}
 use Rattle.line.specs.Timing.{timingWords}
-use Rattle.writer.proofs.Frame.{by-two}
+use Rattle.packets.proofs.Parts.{by-two}
 use borrow.Author.Needs.{needs}
 use Rattle.writer.proofs.opening.put_payload.Statement.{statement}
 use Rattle.writer.proofs.opening.put_payload.Tie as tie

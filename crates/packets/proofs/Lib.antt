@@ -1,0 +1,6 @@
+pub mod Parts
+pub mod PacketLaws
+pub mod PacketBack
+pub mod ListLaws
+pub mod ListingLaws
+pub mod HeaderPacket

@@ -1,0 +1,3 @@
+pub mod Packet
+pub mod Gap
+pub mod Listing
