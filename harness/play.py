@@ -2,6 +2,7 @@
 import collections
 import sys
 
+import classing
 import kinds
 import lists
 from allowance import read_within, seen_of
@@ -13,7 +14,7 @@ from words import VARIABLE, by_perl, by_python, byte_form, checksum, crc_of, crc
 from writer import DONE, Writer
 
 STEPS = {"new", "open", "close", "words", "index", "data", "mix", "read", "view", "last", "at", "phase", "settings"}
-STEPS |= {"Put", "Tell", "Impossible", "Make", "Room", "Open", "Add", "Close", "Words", "Sum", "Header", "Line", "Batch", "under", "Gap", "Find"}
+STEPS |= {"Put", "Tell", "Impossible", "Make", "Room", "Open", "Add", "Close", "Words", "Sum", "Header", "Line", "Batch", "under", "Gap", "Find", "Kinds"}
 
 
 class Register:
@@ -276,6 +277,9 @@ class Play:
         words = self.line[index : index + count]
         self.seen["crc", self.made] += self.made[1] == count
         self.rows.append(["crc", Register(words), *crc_words(by_python([words])[0]), checksum(words)])
+
+    def big_kinds(self, first):
+        self.rows.append(["kinds", first, classing.digits(first)])
 
     def big_header(self, number):
         h = header(number, self.states[HEADING][SETTINGS:], crc_of, crc_of)

@@ -5,6 +5,7 @@
 import sys
 
 import bursts
+import classing
 import courses
 import edges
 import gap
@@ -302,7 +303,7 @@ def script(scope):
     for part in drops, long_blocks, phases, mixes, fixed, fixed_later, jumps, refusals, unfit, impossible:
         part(book)
     # A new part stands behind all others, so that the steps and rows there are stay as they are.
-    later = [lines, courses, put, edges, reserved, bursts, running, lists, under, gap]
+    later = [lines, courses, put, edges, reserved, bursts, running, lists, under, gap, classing]
     for part in [part for module in later for part in module.PARTS]:
         part(book)
     return "".join(f"{step}\n" for step in book.steps)

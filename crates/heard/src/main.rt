@@ -12,6 +12,7 @@ mod batch; // batch.rt: the writer called with a list of blocks
 mod under; // under.rt: the reader called under an allowance
 mod gap; // gap.rt: packets laid in a gap, and listed
 mod shown; // shown.rt: rows of words, sums, headers, checks and states
+mod classes; // classes.rt: the classes of numbers
 mod play; // play.rt: which step does what
 
 use libc::STDIN_FILENO;

@@ -1,6 +1,7 @@
 // Which step does what, by the first letter of its name. What a step is, and its row, is said where it is done.
 use crate::batch;
 use crate::calls;
+use crate::classes;
 use crate::gap;
 use crate::kept;
 use crate::lay;
@@ -67,6 +68,7 @@ fn show(name: u8, ns: &[u64], part: &[u16], room: &mut [u16]) {
         b'W' => shown::words(part),
         b'S' => shown::sums(part),
         b'F' => gap::find(ns, part, room),
+        b'K' => classes::kinds(ns),
         _ => shown::checked(ns, part),
     }
 }
@@ -108,7 +110,7 @@ fn act(
             part,
             room,
         ),
-        b'v' | b'R' | b'W' | b'S' | b'F' | b'L' => show(name, ns, part, room),
+        b'v' | b'R' | b'W' | b'S' | b'F' | b'K' | b'L' => show(name, ns, part, room),
         b'P' | b'T' => choose(s, ns, rd, wr, hd),
         b'I' => shown::impossible(rd, wr),
         b'n' => fresh(ns, rd, wr),

@@ -4,7 +4,7 @@ use mathlib.Core.Path.{_≡_, refl, sym, ap, ap₂, _∙_, subst}
 use mathlib.Core.Bool.{Bool, true, _&&_}
 use mathlib.Core.List.{List, [], _∷_, _++_, map}
 use Prim.Native.Nat.{ℕ, zero, suc, _+_, _-_, _<_, _≤_}
-use native.Mathlib.Nat.{zero-add, suc-add, add-suc, add-zero, sub-zero, zero-sub, suc-sub-suc, le-of-suc-le-suc, not-suc-le-zero}
+use native.Mathlib.Nat.{sub-zero, zero-sub, suc-sub-suc}
 use native.Mathlib.Omega.{arith}
 use lib.Dec.{T, eqb}
 use lib.ListN.{length, getD, take, drop, replicate, length-take, length-drop}
@@ -121,19 +121,6 @@ pub each-map : (f : ℕ → ℕ) (g h : ℕ → Bool) → ((x : ℕ) → h x ≡
 each-map f g h k [] p = refl
 each-map f g h k (x ∷ xs) p =
     let b = both-true (h x) (each h xs) p in ap₂ _&&_ (k x (b .0)) (each-map f g h k xs (b .1))
-
--- ---- a table as a rule makes it
-abbrev pub tabulate : ℕ → ℕ → (ℕ → ℕ) → List ℕ
-tabulate i zero f = []
-tabulate i (suc n) f = f i ∷ tabulate (suc i) n f
-
-getD-tabulate : (i n : ℕ) (f : ℕ → ℕ) (k : ℕ) → k < n → getD (tabulate i n f) k 0 ≡ f (i + k)
-getD-tabulate i zero f k h = absurd (not-suc-le-zero h)
-getD-tabulate i (suc n) f zero h = ap f (sym (add-zero i))
-getD-tabulate i (suc n) f (suc k) h = getD-tabulate (suc i) n f k (le-of-suc-le-suc h) ∙ ap f (suc-add i k ∙ sym (add-suc i k))
-
-pub at-table : (n : ℕ) (f : ℕ → ℕ) (k : ℕ) → k < n → getD (tabulate 0 n f) k 0 ≡ f k
-at-table n f k h = getD-tabulate 0 n f k h ∙ ap f (zero-add k)
 
 -- ---- one word many times
 pub take-filler : (k m x : ℕ) → k ≤ m → take k (replicate m x) ≡ replicate k x

@@ -1,7 +1,7 @@
 -- Laws of the places of a fixed line: what a place reports, and the walk from one place to the next.
 -- Assumes nothing.
 use mathlib.Core.Path.{_≡_, refl, sym, ap, ap₂, _∙_}
-use mathlib.Core.Bool.{true, false, _||_}
+use mathlib.Core.Bool.{Bool, true, false, _||_}
 use mathlib.Core.List.{List, [], _∷_, _++_, map}
 use Prim.Native.Nat.{ℕ, zero, suc, _+_, _-_, _/_, _%_, _≤_, _<_}
 use native.Mathlib.Nat.{add-zero, div-eq-sub-div, div-eq-of-lt}
@@ -11,22 +11,38 @@ use lib.Dec.{eqb, ltb}
 use lib.ListN.{length, getD, take, drop, length-take, length-drop, length-map}
 use lib.Seq.{length-take-le, getD-take, getD-drop, drop-drop}
 use borrow.Author.Tests.{ne-eqb, eqb-false, le-ltb, ltb-false}
+use Rattle.lists.specs.Tests.{pick}
 use Rattle.lists.proofs.Tests.{pick-true, pick-false, or-false, false-or}
 use Rattle.words.specs.Modes.{valueOf}
-use Rattle.words.specs.Class.{classOf}
+use Rattle.words.specs.Forms.{isByte, isData}
+use Rattle.words.specs.Class.{classOf, separator, endCode}
 use Rattle.words.specs.declared.class.Class.{Class}
-use Rattle.words.specs.declared.class.Class.the-variants.{Byte}
+use Rattle.words.specs.declared.class.Class.the-variants.{Byte, Other, Separator, Ending, Illegal}
+use Rattle.words.proofs.ClassLaws.{class-byte}
 use Rattle.machine.specs.declared.phase.Phase.{Phase}
 use Rattle.machine.specs.declared.step.Met.{Met}
-use Rattle.machine.specs.declared.step.Met.the-variants.{Nothing, Whole}
+use Rattle.machine.specs.declared.step.Met.the-variants.{Nothing, Whole, Lost}
 use Rattle.machine.specs.Walk.{Walk, walkedTo, past, unless, isNothing}
 use Rattle.machine.specs.Places.{placesIn, placeMet, metAt, placeRoom, walkPlaces, walkFixed}
 use Rattle.machine.proofs.WalkLaws.{past-past, goes, stops}
 
 -- ---- what a place reports
-pub met-by : (w n : ℕ) (c : Class) → classOf w ≡ c → metAt w n ≡ placeMet c (w % 256) n
+pub met-byte : (w n : ℕ) → isByte w ≡ true → metAt w n ≡ placeMet Byte (w % 256) n
 unfolding metAt
-met-by w n c e = ap (λ (x : Class). placeMet x (w % 256) n) e
+met-byte w n b = ap (λ (c : Class). placeMet c (w % 256) n) (class-byte w b)
+
+-- a type not in byte form, whatever else it is
+lost-by : (d s e : Bool) (k n : ℕ) → placeMet (pick d Other (pick s Separator (pick e Ending Illegal))) k n ≡ Lost 2
+unfolding pick
+lost-by true s e k n = refl
+lost-by false true e k n = refl
+lost-by false false true k n = refl
+lost-by false false false k n = refl
+
+pub met-formless : (w n : ℕ) → isByte w ≡ false → metAt w n ≡ Lost 2
+unfolding metAt classOf
+met-formless w n b =
+    ap (λ (c : Class). placeMet c (w % 256) n) (pick-false Byte _ b) ∙ lost-by (isData w) (eqb w separator) (eqb w endCode) (w % 256) n
 
 pub met-whole : (k n : ℕ) → (k ≡ 0 → ⊥) → placeMet Byte k n ≡ Whole k n
 met-whole zero n h = absurd (h refl)

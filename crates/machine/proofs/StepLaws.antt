@@ -101,3 +101,8 @@ pub step-numbered : (room : ℕ) (p : Phase) (w : ℕ) (s : Step) → s ≡ step
 step-numbered room p w s e =
     let n = step-numbers room p w in
     (e, ap (λ (x : Step). metNumbers (x .met)) e ∙ n .0, ap (λ (x : Step). phaseNumbers (x .phase)) e ∙ n .1)
+
+-- the step of a word by its class
+pub step-classed : (room : ℕ) (p : Phase) (w : ℕ) (c : Class) → c ≡ classOf w → stepBy room p c (w % 256) ≡ stepOf room p w
+unfolding stepOf
+step-classed room p w c e = ap (λ (k : Class). stepBy room p k (w % 256)) e

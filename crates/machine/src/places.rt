@@ -4,8 +4,7 @@ use crate::runs;
 use crate::step::Met;
 use crate::walk;
 use crate::walk::Walked;
-use words::class;
-use words::class::Class;
+use words::forms;
 ghost use mathlib.Core.Path.{_≡_};
 ghost use mathlib.Core.List.{map};
 ghost use Prim.Native.Nat.{_-_, _/_, _≤_};
@@ -16,26 +15,21 @@ ghost use Rattle.machine.specs.Walk.{leaves};
 ghost use Rattle.machine.specs.WalkNumbers.{numbersOf, fixedBy};
 ghost use Rattle.machine.specs.Places.{placesIn, metAt, placeRoom, walkPlaces, walkFixed};
 
-// What a place of that type word and n values reports: nothing where it is empty.
+// What a place of that type word and n values reports: nothing where it is empty. All that is asked of the word is its form, so that no call
+// on a fixed line builds the table of classes.
 fn met_at(w: u16, n: usize) -> Met
     ensures { λ r. ⌜ r ≡ metAt w n ⌝ }
 {
-    let c = class::class_of(w);
+    if !forms::is_byte(w) {
+        return Met::Lost { reason: 2 };
+    }
     let kind = (w % 256) as u8;
-    match c {
-        Class::Byte => {
-            if kind == 0 {
-                return Met::Nothing;
-            }
-            Met::Whole {
-                kind: kind,
-                length: n,
-            }
-        }
-        Class::Other => Met::Lost { reason: 2 },
-        Class::Separator => Met::Lost { reason: 2 },
-        Class::Ending => Met::Lost { reason: 2 },
-        Class::Illegal => Met::Lost { reason: 2 },
+    if kind == 0 {
+        return Met::Nothing;
+    }
+    Met::Whole {
+        kind: kind,
+        length: n,
     }
 }
 

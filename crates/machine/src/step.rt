@@ -8,7 +8,7 @@ ghost use Prim.Native.Nat.{_+_, _*_, _%_};
 ghost use Rattle.words.specs.Class.{classNumberOf};
 ghost use Rattle.machine.specs.Phases.{phaseNumbers, metNumbers};
 ghost use Rattle.machine.specs.StepNumbers.{metBy, phaseBy};
-ghost use Rattle.machine.specs.Machine.{on, dropped, again, idleStep, kindStep, countStep, counted, endStep, valueStep, dataStep, stepOf};
+ghost use Rattle.machine.specs.Machine.{on, dropped, again, idleStep, kindStep, countStep, counted, endStep, valueStep, dataStep, stepBy, stepOf};
 
 // What a word reports: nothing; a whole block, with type and length; or a drop, with its number.
 pub enum Met {
@@ -163,12 +163,10 @@ fn count_of(b0: u8, b1: u8, b2: u8, b3: u8) -> usize
     b0 as usize + b1 as usize * 256 + b2 as usize * 65536 + b3 as usize * 16777216
 }
 
-// One word, in a room of that length; and the numbers of what it reports and of the next phase, by those of the phase and the word.
-pub fn step_word(room: usize, phase: Phase, w: u16) -> Step
-    ensures { λ r. ⌜ (r ≡ stepOf room phase w) × (metNumbers (r .met) ≡ metBy room (phaseNumbers phase) (classNumberOf w) (w % 256))
-        × (phaseNumbers (r .phase) ≡ phaseBy room (phaseNumbers phase) (classNumberOf w) (w % 256)) ⌝ }
+// One word of that class, in a room of that length.
+pub(crate) fn step_by(c: Class, room: usize, phase: Phase, w: u16) -> Step
+    ensures { λ r. ⌜ r ≡ stepBy room phase c (w % 256) ⌝ }
 {
-    let c = class::class_of(w);
     let b = (w % 256) as u8;
     match phase {
         Phase::Idle => idle_step(c),
@@ -201,4 +199,12 @@ pub fn step_word(room: usize, phase: Phase, w: u16) -> Step
             collected,
         } => data_step(room, kind, announced, collected, c),
     }
+}
+
+// One word, in a room of that length; and the numbers of what it reports and of the next phase, by those of the phase and the word.
+pub fn step_word(room: usize, phase: Phase, w: u16) -> Step
+    ensures { λ r. ⌜ (r ≡ stepOf room phase w) × (metNumbers (r .met) ≡ metBy room (phaseNumbers phase) (classNumberOf w) (w % 256))
+        × (phaseNumbers (r .phase) ≡ phaseBy room (phaseNumbers phase) (classNumberOf w) (w % 256)) ⌝ }
+{
+    step_by(class::class_of(w), room, phase, w)
 }

@@ -6,6 +6,7 @@ use crate::runs;
 use crate::step;
 use crate::step::Met;
 use crate::step::Step;
+use words::class;
 use words::forms;
 ghost use mathlib.Core.Path.{_≡_};
 ghost use mathlib.Core.Bool.{true};
@@ -45,12 +46,13 @@ fn put_value(keeps: bool, m: usize, v: u16, room: &mut [u16])
     }
 }
 
-// One word: what it does, and its value into the room if it is kept.
+// One word: what it does, and its value into the room if it is kept. Its class is asked by the forms: a table named in a reading call costs
+// more than it saves (docs/PERFORMANCE.md).
 fn take_word(mode: u8, phase: Phase, w: u16, room: &mut [u16]) -> Step
     ensures { λ r. ⌜ (r ≡ stepOf (length (now (room .entry))) phase w)
         × (now (room .exit) ≡ stored (r .keeps) (collectedOf phase) (valueOf mode w) (now (room .entry))) ⌝ }
 {
-    let s = step::step_word(room.len(), phase, w);
+    let s = step::step_by(class::class_by_form(w), room.len(), phase, w);
     put_value(
         s.keeps,
         phase::collected_of(phase),

@@ -29,7 +29,7 @@ pub class-injective : (a b : Class) → classNumber a ≡ classNumber b → a �
 class-injective a b e = sym (named-back a) ∙ ap named e ∙ named-back b
 
 -- ---- the number of a word's class
-number-by : (b d s e : Bool) → classNumber (pick b Byte (pick d Other (pick s Separator (pick e Ending Illegal)))) ≡ pick b 1 (pick d 2 (pick s 3 (pick e 4 5)))
+pub number-by : (b d s e : Bool) → classNumber (pick b Byte (pick d Other (pick s Separator (pick e Ending Illegal)))) ≡ pick b 1 (pick d 2 (pick s 3 (pick e 4 5)))
 unfolding pick
 number-by true d s e = refl
 number-by false true s e = refl

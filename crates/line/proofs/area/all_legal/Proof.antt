@@ -1,36 +1,26 @@
 -- `line::area::all_legal` meets its contract. Assumes nothing.
 use Rattle.lists.proofs.Needs.{need}
-use Prim.Native.Nat.{_-_}
-use lib.ListN.{length}
-use Rattle.lists.proofs.Loops.{Testing, test-start, test-turn, test-end}
-use Rattle.line.specs.Check.{legal}
+use mathlib.Core.Path.{sym, ap₂, _∙_, subst}
+use Prim.Native.Nat.{ℕ, _<_}
+use lib.Dec.{eqb}
+use lib.Bits.{bitAnd}
+use Rattle.line.proofs.AreaLaws.{none-barred, high-barred}
 use borrow.Author.Needs.{needs}
 use Rattle.line.proofs.area.all_legal.Statement.{statement}
 use Rattle.line.proofs.area.all_legal.Tie as tie
 
-abbrev Inv-loop : tie.InvT-loop
-Inv-loop mode variable s ok₀ i₀ ok i = Testing (legal mode variable) s ok i
-
-abbrev μ-loop : tie.MeasureT-loop
-μ-loop mode variable s ok₀ i₀ ok i = length s - i
-
-loop-holds : tie.Need-loop-holds Inv-loop μ-loop
-loop-holds c = test-start _ _
-
-loop-again : tie.Need-loop-again Inv-loop μ-loop
-loop-again c =
-    let a = c .before .before .before .before .before .args in
-    test-turn (legal (a .mode) (a .variable)) _ _ _ _ (c .before .before .before .loop .inv) (c .before .before .loop-test .taken) (c .is-legal .ensures)
-
-returns : tie.Need-returns Inv-loop μ-loop
+returns : tie.Need-returns
 returns c =
     let a = c .before .before .before .args in
-    test-end (legal (a .mode) (a .variable)) _ _ _ (c .before .loop .inv) (c .loop-test .left)
+    sym (high-barred (a .mode) (a .variable) (a .s .now) (subst (λ (n : ℕ). 1023 < n) (c .before .words-of .ensures) (c .if1 .taken)))
+
+returns-2 : tie.Need-returns-2
+returns-2 c =
+    let a = c .before .before .before .before .before .before .before .args in
+    ap₂ (λ (x y : ℕ). eqb (bitAnd x y) 0) (c .before .classes-of .ensures) (c .barred .ensures) ∙ none-barred (a .mode) (a .variable) (a .s .now)
 
 pub all-legal-spec : {M : Type 1} → statement M
 all-legal-spec =
     tie.close (tie.spec
-    Inv-loop μ-loop loop-holds (need (tie.Need-mul-is-legal Inv-loop μ-loop) (λ c. search needs))
-    (need (tie.Need-shared-slice-read-is-legal Inv-loop μ-loop) (λ c. search needs))
-    (need (tie.Need-is-legal-requires Inv-loop μ-loop) (λ c κs. search needs)) (need (tie.Need-add-i Inv-loop μ-loop) (λ c. search needs))
-    (need (tie.Need-loop-less Inv-loop μ-loop) (λ c. search needs)) loop-again returns)
+    (need tie.Need-words-of-requires (λ c κs. search needs)) returns (need tie.Need-classes-requires (λ c κs. search needs))
+    (need tie.Need-classes-of-requires (λ c κs. search needs)) (need tie.Need-barred-requires (λ c κs. search needs)) returns-2)

@@ -1,34 +1,44 @@
 -- `machine::walk::take_word` meets its contract. Assumes nothing.
 use Rattle.lists.proofs.Needs.{need}
-use mathlib.Core.Path.{sym, ap, ap₂, _∙_}
+use mathlib.Core.Path.{_≡_, sym, ap, ap₂, _∙_}
 use Prim.Native.Nat.{ℕ}
 use lib.ListN.{length}
 use Rattle.machine.specs.declared.step.Step.{Step}
+use Rattle.machine.specs.Machine.{stepOf}
 use Rattle.machine.specs.Walk.{stored}
+use Rattle.machine.proofs.StepLaws.{step-classed}
 use Rattle.machine.proofs.Kept.{step-steady}
 use borrow.Author.Needs.{needs}
 use Rattle.machine.proofs.walk.take_word.Statement.{statement}
 use Rattle.machine.proofs.walk.take_word.Tie as tie
 
+-- the step is that of the word
+step-is : (s : tie.After-step-by) →
+    let g = s .before .before .before .args in
+    s .step-by .result ≡ stepOf (length (g .room .now)) (g .phase) (g .w)
+step-is s =
+    let g = s .before .before .before .args in
+    s .step-by .ensures ∙ step-classed (length (g .room .now)) (g .phase) (g .w) _ (s .before .class-by-form .ensures .0)
+
 put-value-requires : tie.Need-put-value-requires
 put-value-requires c κs = λ e.
     let s = c .before .before .before in
-    let g = s .before .before .args in
+    let g = s .before .before .before .args in
     rw (c .before .before .collected-of .ensures)
-    (step-steady (length (g .room .now)) (g .phase) (g .w) .inside (sym (ap (λ (x : Step). x .keeps) (s .step-word .ensures .0)) ∙ e))
+    (step-steady (length (g .room .now)) (g .phase) (g .w) .inside (sym (ap (λ (x : Step). x .keeps) (step-is s)) ∙ e))
 
 returns : tie.Need-returns
 returns c =
     let v = c .before .before .before .before in
     let s = v .before .before in
-    let g = s .before .before .args in (
-      s .step-word .ensures .0,
+    let g = s .before .before .before .args in (
+      step-is s,
       c .before .before .put-value .ensures
-          ∙ ap₂ (λ (m x : ℕ). stored (s .step-word .result .keeps) m x (g .room .now)) (v .before .collected-of .ensures) (v .value-of .ensures),
+          ∙ ap₂ (λ (m x : ℕ). stored (s .step-by .result .keeps) m x (g .room .now)) (v .before .collected-of .ensures) (v .value-of .ensures),
     )
 
 pub take-word-spec : {M : Type 1} → statement M
 take-word-spec =
     tie.close (tie.spec
-    (need tie.Need-step-word-requires (λ c κs. search needs)) (need tie.Need-collected-of-requires (λ c κs. search needs))
+    (need tie.Need-class-by-form-requires (λ c κs. search needs)) (need tie.Need-step-by-requires (λ c κs. search needs)) (need tie.Need-collected-of-requires (λ c κs. search needs))
     (need tie.Need-value-of-requires (λ c κs. search needs)) put-value-requires (need tie.Need-same-length (λ c. search needs)) returns)
