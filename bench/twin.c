@@ -12,7 +12,7 @@
 
 enum { LENGTH = 1716, PAYLOAD = 1440, START = LENGTH - PAYLOAD, LINES = 525, BATCH = 8, ROOM = 16384, MOST = 10000 };
 enum { SYSTEM = 0 }; // the one that the twin knows; LENGTH, PAYLOAD and LINES are its own
-enum { SEPARATOR = 0x309, END_CODE = 0x30A, FILLER = 0x200, VARIABLE = 0xC1 };
+enum { SEPARATOR = 0x309, END_CODE = 0x30A, NULL_WORD = 0x100, FILLER = 0x200, VARIABLE = 0xC1 };
 
 typedef struct {
     uint8_t code, aai, to[16], from[16], block, flag, reserved[5];
@@ -337,7 +337,7 @@ static int legal_area(int mode, int variable, const uint16_t *w, size_t n) {
     unsigned ok = 1;
     if (mode == 8)
         for (size_t i = 0; i < n; i++)
-            ok &= is_byte(w[i]) | (variable & (is_code(w[i])));
+            ok &= is_byte(w[i]) | (w[i] == NULL_WORD) | (variable & (is_code(w[i])));
     else
         for (size_t i = 0; i < n; i++)
             ok &= is_data(w[i]) | (variable & (is_code(w[i])));
@@ -406,7 +406,7 @@ enum { IDLE, TYPE, COUNT, DATA };
 enum { BEGUN = 3, ENDED = 4, PAUSED = 5 }; // events beside 1, a block, and 2, a drop
 
 typedef struct {
-    unsigned system, last, place, phase, kind, bytes, count, got;
+    unsigned system, last, place, phase, kind, bytes, count, got; // the kind of a null is NULL_WORD
     int mode;
     Settings settings;
 } Reader;
@@ -425,14 +425,14 @@ static int step(Reader *r, unsigned w) {
     if (w == END_CODE) {
         int whole = r->phase == DATA && (r->count == 0 || r->count == r->got);
         r->phase = IDLE;
-        return whole ? 1 : 2;
+        return !whole ? 2 : r->kind == NULL_WORD ? 0 : 1;
     }
-    if (r->phase != DATA && !is_byte(w)) {
+    if (r->phase != DATA && !is_byte(w) && !(r->phase == TYPE && w == NULL_WORD)) {
         r->phase = IDLE;
         return 2;
     }
     if (r->phase == TYPE) {
-        r->kind = w & 0xFF;
+        r->kind = w == NULL_WORD ? NULL_WORD : w & 0xFF;
         r->bytes = r->count = 0;
         r->phase = COUNT;
         return 0;
@@ -445,7 +445,7 @@ static int step(Reader *r, unsigned w) {
         r->phase = r->count > ROOM ? IDLE : DATA;
         return r->phase == IDLE ? 2 : 0;
     }
-    r->phase = IDLE; // past a met count, or past the room
+    r->phase = IDLE; // past a met count, past the room, or 100h in 8-bit mode
     return 2;
 }
 
@@ -459,12 +459,13 @@ static void copy_values(int mode, const uint16_t *w, size_t n, uint16_t *out) {
 static int go_on(Reader *r, const uint16_t *line, size_t end, uint16_t *room) {
     const uint16_t *w = line + START;
     size_t i = r->place;
+    unsigned other = r->mode == 8 ? NULL_WORD : SEPARATOR; // where a run ends beside the codes
     while (i < end) {
         if (r->phase == IDLE || r->phase == DATA) {
             size_t stop = end, from = i;
             if (r->phase == DATA)
                 stop = min(end, i + (r->count ? r->count : ROOM) - r->got);
-            while (i < stop && !is_code(w[i]))
+            while (i < stop && !is_code(w[i]) && w[i] != other)
                 i++;
             if (r->phase == DATA) {
                 copy_values(r->mode, w + from, i - from, room + r->got);
@@ -483,14 +484,25 @@ static int go_on(Reader *r, const uint16_t *line, size_t end, uint16_t *room) {
     return ENDED;
 }
 
+static int has_null(const uint16_t *w, size_t n) {
+    unsigned found = 0;
+    for (size_t i = 0; i < n; i++)
+        found |= w[i] == NULL_WORD;
+    return (int)found;
+}
+
 static int next_place(Reader *r, const uint16_t *line, size_t size, size_t end, uint16_t *room) {
     while (r->place < end) {
         const uint16_t *w = line + START + r->place;
         r->place += size;
+        if (w[0] == NULL_WORD)
+            continue;
         if (!is_byte(w[0]))
             return 2;
         if (w[0] == FILLER)
             continue;
+        if (r->mode == 8 && has_null(w + 1, size - 1))
+            return 2;
         r->kind = w[0] & 0xFF;
         r->got = size - 1;
         copy_values(r->mode, w + 1, size - 1, room);

@@ -1,4 +1,4 @@
-"""What the line check answers, by 01's table "Numbered answers", condition by condition; written from 01, not from our code."""
+"""What the line check answers, by 01's table "Numbered answers", condition by condition, and 02, Item 2; written from these, not from our code."""
 from words import FIRST_SIX, VARIABLE, byte_form, checksum, crc_of, settings_fault, timing
 
 
@@ -41,7 +41,7 @@ def answer(scope, system, mode, line):
     block, flag = values[2:4]
     area, end = (line[start:-2], line[-2:]) if flag == 1 else (line[start:], [])
     more = (0x309, 0x30A) if block == VARIABLE else ()
-    if not all(w in more or (is_byte(w) if mode == 8 else is_data(w)) for w in area) or not all(map(is_data, end)):
+    if not all(w in more or (is_byte(w) or w == 0x100 if mode == 8 else is_data(w)) for w in area) or not all(map(is_data, end)):
         return 15, 0, []
     if flag == 1 and end != crc_of(area):
         return 16, 0, []

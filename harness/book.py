@@ -1,4 +1,4 @@
-"""A book of steps, for the cases in script.py, lines.py, courses.py, put.py, edges.py and reserved.py."""
+"""A book of steps, for the cases in script.py and its parts."""
 from states import BUFFER, HEADING, SETTINGS, WRITER
 from words import VARIABLE, block_words, byte_form, settings
 

@@ -5,6 +5,7 @@ import allowance
 import gap
 import kinds
 import lists
+import nulls
 from courses import ENDS
 from lines import BYTE_FORM, DATA_FORM, SAME
 from words import VARIABLE
@@ -63,7 +64,7 @@ def missing(scope, play):
             yield f"fewer than {n} lists of kind and length {kind}"
     for what in kinds.passed(play.seen):
         yield f"a short burst that is not refused with 15 or 16: {what}"
-    asked = [kinds.asked(scope), lists.asked(scope), allowance.asked(), gap.asked(scope)]
+    asked = [kinds.asked(scope), lists.asked(scope), allowance.asked(), gap.asked(scope), nulls.asked()]
     for what in itertools.chain(reader(scope), writer(scope), check(scope), *asked):
         if not play.seen[what]:
             yield f"nowhere {what}"

@@ -5,6 +5,7 @@ import sys
 import classing
 import kinds
 import lists
+import nulls
 from allowance import read_within, seen_of
 from answers import answer
 from packets import listed
@@ -220,10 +221,11 @@ class Play:
     def read(self, times, length, room):
         row, reader = ["read"], to_reader(self.scope, self.states[READER])
         for _ in range(times):
-            lent, held = self.room[:room], reader.settings
+            lent, held, phase, ended = self.room[:room], reader.settings, reader.phase, reader.nulls
             event = reader.read(self.line[:length], lent)
             self.room[:room] = lent
             self.seen.update(kinds.of_begun(reader.mode, held, reader.settings, event))
+            self.seen.update(nulls.of_call(phase, ended, reader, event))
             row += [said(event), Register(lent[: event[2]])] if event[0] == "block" else [said(event)]
             self.count(reader, event)
             if event[0] in ("refused", "end"):

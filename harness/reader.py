@@ -1,10 +1,11 @@
-"""The reader of 01, "The reader, step by step", written from 01 and not from our code."""
+"""The reader of 01, "The reader, step by step", with the nulls of 02, Item 2; written from 01 and 02 and not from our code."""
 from answers import answer, is_byte
 from course import MOST, Course
 from words import VARIABLE
 
 ROOM = MOST
 IDLE, TYPE = ("idle",), ("type",)  # the others: ("count", type, bytes so far ..), ("data", type, announced, collected)
+NULL = 0x100  # the type word of a null, and its type in a phase
 
 
 class Reader(Course):
@@ -12,6 +13,7 @@ class Reader(Course):
     ("block", type, length), ("drop", reason) or ("end",)."""
 
     phase = IDLE
+    nulls, dropped_null = 0, False  # nulls that ended, and whether the last drop was one's: for what the rows have to hold
 
     def read(self, line, room):
         """A reading call."""
@@ -69,15 +71,20 @@ class Reader(Course):
 
     def fixed(self, words, room):
         """A place of a fixed line."""
+        if words[0] == NULL:
+            return None
         if not is_byte(words[0]):
             return "drop", 2
         if words[0] == 0x200:
             return None
+        if self.mode == 8 and NULL in words[1:]:
+            return "drop", 7
         for i, w in enumerate(words[1:]):
             room[i] = self.value(w)
         return "block", words[0] & 0xFF, len(words) - 1
 
     def drop(self, reason):
+        self.dropped_null = NULL in self.phase[1:2]
         self.phase = TYPE if reason == 1 else IDLE
         return "drop", reason
 
@@ -94,6 +101,9 @@ class Reader(Course):
         """Type or count awaited."""
         if w == 0x30A:
             return self.drop(4)
+        if w == NULL and self.phase == TYPE:
+            self.phase = ("count", NULL)
+            return None
         if not is_byte(w):
             return self.drop(2 if self.phase == TYPE else 3)
         if self.phase == TYPE:
@@ -114,11 +124,16 @@ class Reader(Course):
             if announced not in (0, collected):
                 return self.drop(4)
             self.phase = IDLE
+            if kind == NULL:
+                self.nulls += 1
+                return None
             return "block", kind, collected
         if announced and collected == announced:
             return self.drop(5)
         if collected == ROOM:
             return self.drop(6)
+        if self.mode == 8 and w == NULL:
+            return self.drop(7)
         room[collected] = self.value(w)
         self.phase = ("data", kind, announced, collected + 1)
         return None

@@ -11,6 +11,7 @@ import edges
 import gap
 import lines
 import lists
+import nulls
 import put
 import reserved
 import running
@@ -19,7 +20,8 @@ from book import ROOM, SOURCE, TO, Book, whole
 from words import VARIABLE, Scope, block_head, byte_form, checksum, crc_of, data_form, header, opened_line, settings_by
 
 ONE, TWO, THREE = map(byte_form, (1, 2, 3))
-NOT_BYTE = 0x100  # data form, and not byte form
+NOT_BYTE = 0x103  # data form, and not byte form
+NULL = 0x100  # the same, and a null's type
 
 # For each drop some causes: the words before, the causing word, and whether an 8-bit line with it is refused, so that it is laid later.
 CAUSES = [
@@ -73,8 +75,8 @@ PHASES = [[], [0x309], *(block_head(6, 2)[:n] for n in (2, 3, 4, 5, 6)), block_h
 
 def phases(book):
     for mode in 8, 9:
-        fair = [0x309, 0x30A, 0x200, ONE, 0x2FF] + [NOT_BYTE, 0x201] * (mode == 9)
-        odd = [0x000, 0x3FF, NOT_BYTE, 0x400, 0x600, 0x709, 0x70A, 0xFFFF, 0x309, 0x30A]
+        fair = [0x309, 0x30A, 0x200, ONE, 0x2FF] + [NULL, 0x201] * (mode == 9)
+        odd = [0x000, 0x3FF, NULL, 0x400, 0x600, 0x709, 0x70A, 0xFFFF, 0x309, 0x30A]
         for later, causes in (False, fair), (True, odd[:5]), (True, odd[5:]):
             book.note(f"mode {mode}: in every phase " + ("words laid after the line was begun" if later else "words that a line may have"))
             book.new(mode - 8, mode)
@@ -303,7 +305,7 @@ def script(scope):
     for part in drops, long_blocks, phases, mixes, fixed, fixed_later, jumps, refusals, unfit, impossible:
         part(book)
     # A new part stands behind all others, so that the steps and rows there are stay as they are.
-    later = [lines, courses, put, edges, reserved, bursts, running, lists, under, gap, classing]
+    later = [lines, courses, put, edges, reserved, bursts, running, lists, under, gap, classing, nulls]
     for part in [part for module in later for part in module.PARTS]:
         part(book)
     return "".join(f"{step}\n" for step in book.steps)

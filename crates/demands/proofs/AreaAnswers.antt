@@ -35,8 +35,11 @@ area-answers =
     ∷ case (lineFault 0 8 (ending 0x1c0 0x21a (line 0 20 guarded))) 0
     -- a reserved byte that is not 0, in a fixed line; in a variable one: `marks-back`
     ∷ case (lineFault 3 9 (line 3 1 (set 2 0 0x21 0 0xff))) 0
+    -- 100h in 8-bit mode: in a variable line, and in the rest of a fixed one
+    ∷ case (lineFault 0 8 (put 276 0x100 (line 0 1 plain))) 0 ∷ case (lineFault 0 8 (put 1715 0x100 (line 0 1 fixed))) 0
     -- 15: area word; 400h and above; 309h and 30Ah in variable lines only; a CRC word
     ∷ case (lineFault 0 8 (put 276 0x000 (line 0 1 plain))) 15 ∷ case (lineFault 0 8 (put 1715 0x600 (line 0 1 plain))) 15
+    ∷ case (lineFault 0 8 (put 276 0x103 (line 0 1 plain))) 15 ∷ case (lineFault 0 8 (put 276 0x500 (line 0 1 plain))) 15
     ∷ case (lineFault 0 8 (put 276 0x30a (line 0 1 fixed))) 15
     ∷ case (lineFault 0 8 (put 1715 0x309 (line 0 1 guarded))) 15
     -- 16

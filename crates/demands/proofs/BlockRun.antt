@@ -17,10 +17,12 @@ use Rattle.lists.proofs.Tests.{or-right, false-or, both-true, pick-true, pick-f
 use Rattle.lists.proofs.Lists.{each-append, each-map}
 use Rattle.words.specs.Forms.{isData, isByte, dataWord, byteWord}
 use Rattle.words.specs.Modes.{values, wordOf, valueOf}
-use Rattle.words.specs.Class.{classOf, isCode, separator, endCode}
-use Rattle.words.specs.declared.class.Class.the-variants.{Byte, Other, Separator, Ending, Illegal}
+use Rattle.words.specs.Class.{classOf, isCode, separator, endCode, nullWord}
+use Rattle.words.specs.declared.class.Class.the-variants.{Byte, Other, Separator, Ending, Illegal, Null}
 use Rattle.words.proofs.FormLaws.{byte-low, data-in, byte-data, value-back}
 use Rattle.words.proofs.ClassLaws.{class-byte, code-not-data, code-class}
+use Rattle.machine.specs.declared.phase.Mark.{Mark}
+use Rattle.machine.specs.declared.phase.Mark.the-variants.{Typed}
 use Rattle.machine.specs.declared.phase.Phase.{Phase}
 use Rattle.machine.specs.declared.phase.Phase.the-variants.{Idle, Kind, First, Second, Third, Fourth, Data}
 use Rattle.machine.specs.declared.step.Met.the-variants.{Whole}
@@ -31,7 +33,7 @@ use Rattle.machine.proofs.RunLaws.{collecting, data-class, value-kept}
 use Rattle.writer.specs.Block.{countWords, blockWords}
 use Rattle.writer.specs.State.{most}
 use Rattle.writer.specs.Adding.{valued}
-use Rattle.writer.proofs.Legal.{each-take, each-drop, each-filler, byte-any}
+use Rattle.writer.proofs.Legal.{each-take, each-drop, each-filler, byte-any, value-some}
 use Rattle.demands.specs.Hearing.{Heard, is-block}
 use Rattle.demands.proofs.Run.{Now, now, idle, metHeard, stepTo, stepOut, runTo, runOut}
 use Rattle.demands.proofs.RunLaws.{run-to-append, run-out-append}
@@ -78,35 +80,36 @@ passes w = not (eqb w separator)
 data-passes : (w : ℕ) → isData w ≡ true → passes w ≡ true
 data-passes w d = ap not (not-code w separator separator-not-data d)
 
-idle-by : (b d s e : Bool) → not s ≡ true → idleStep (pick b Byte (pick d Other (pick s Separator (pick e Ending Illegal)))) ≡ on Idle
+idle-by : (b z d s e : Bool) → not s ≡ true → idleStep (pick b Byte (pick z Null (pick d Other (pick s Separator (pick e Ending Illegal))))) ≡ on Idle
 unfolding pick
-idle-by true d s e h = refl
-idle-by false true s e h = refl
-idle-by false false true e h = absurd (subst T (sym h) tt)
-idle-by false false false true h = refl
-idle-by false false false false h = refl
+idle-by true z d s e h = refl
+idle-by false true d s e h = refl
+idle-by false false true s e h = refl
+idle-by false false false true e h = absurd (subst T (sym h) tt)
+idle-by false false false false true h = refl
+idle-by false false false false false h = refl
 
-idle-step : (room w : ℕ) → passes w ≡ true → stepOf room Idle w ≡ on Idle
+idle-step : (mode room w : ℕ) → passes w ≡ true → stepOf mode room Idle w ≡ on Idle
 unfolding stepOf classOf
-idle-step room w h = idle-by (isByte w) (isData w) (eqb w separator) (eqb w endCode) h
+idle-step mode room w h = idle-by (isByte w) (eqb w nullWord) (isData w) (eqb w separator) (eqb w endCode) h
 
 -- ---- one word, where its step is known
 -- a word with which nothing is reported and nothing kept
-quiet-to : (mode : ℕ) (p next : Phase) (room : List ℕ) (w : ℕ) → stepOf (length room) p w ≡ on next → stepTo mode (now p room) w ≡ now next room
+quiet-to : (mode : ℕ) (p next : Phase) (room : List ℕ) (w : ℕ) → stepOf mode (length room) p w ≡ on next → stepTo mode (now p room) w ≡ now next room
 unfolding stepTo stored pick
 quiet-to mode p next room w e = ap (λ (s : Step). now (s .phase) (stored (s .keeps) (collectedOf p) (valueOf mode w) room)) e
 
-quiet-out : (mode : ℕ) (p next : Phase) (room : List ℕ) (w : ℕ) → stepOf (length room) p w ≡ on next → stepOut mode (now p room) w ≡ []
+quiet-out : (mode : ℕ) (p next : Phase) (room : List ℕ) (w : ℕ) → stepOf mode (length room) p w ≡ on next → stepOut mode (now p room) w ≡ []
 unfolding stepOut
 quiet-out mode p next room w e = ap (λ (s : Step). metHeard (s .met) (stepTo mode (now p room) w .room)) e
 
 -- a data word
-value-to : (mode k n m : ℕ) (room : List ℕ) (w : ℕ) → stepOf (length room) (Data k n m) w ≡ collecting k n m
+value-to : (mode : ℕ) (k : Mark) (n m : ℕ) (room : List ℕ) (w : ℕ) → stepOf mode (length room) (Data k n m) w ≡ collecting k n m
     → stepTo mode (now (Data k n m) room) w ≡ now (Data k n (m + 1)) (set room m (valueOf mode w))
 unfolding stepTo stored pick
 value-to mode k n m room w e = ap (λ (s : Step). now (s .phase) (stored (s .keeps) m (valueOf mode w) room)) e
 
-value-out : (mode k n m : ℕ) (room : List ℕ) (w : ℕ) → stepOf (length room) (Data k n m) w ≡ collecting k n m → stepOut mode (now (Data k n m) room) w ≡ []
+value-out : (mode : ℕ) (k : Mark) (n m : ℕ) (room : List ℕ) (w : ℕ) → stepOf mode (length room) (Data k n m) w ≡ collecting k n m → stepOut mode (now (Data k n m) room) w ≡ []
 unfolding stepOut
 value-out mode k n m room w e = ap (λ (s : Step). metHeard (s .met) (stepTo mode (now (Data k n m) room) w .room)) e
 
@@ -115,13 +118,13 @@ idle-to : (mode : ℕ) (ws room : List ℕ) → each passes ws ≡ true → runT
 idle-to mode [] room h = refl
 idle-to mode (w ∷ ws) room h =
     let b = both-true (passes w) (each passes ws) h in
-    ap (λ (q : Now). runTo mode q ws) (quiet-to mode Idle Idle room w (idle-step (length room) w (b .0))) ∙ idle-to mode ws room (b .1)
+    ap (λ (q : Now). runTo mode q ws) (quiet-to mode Idle Idle room w (idle-step mode (length room) w (b .0))) ∙ idle-to mode ws room (b .1)
 
 idle-out : (mode : ℕ) (ws room : List ℕ) → each passes ws ≡ true → runOut mode (idle room) ws ≡ []
 idle-out mode [] room h = refl
 idle-out mode (w ∷ ws) room h =
     let b = both-true (passes w) (each passes ws) h in
-    let s = idle-step (length room) w (b .0) in
+    let s = idle-step mode (length room) w (b .0) in
     ap₂ (λ (hs : List Heard) (q : Now). hs ++ runOut mode q ws) (quiet-out mode Idle Idle room w s) (quiet-to mode Idle Idle room w s)
     ∙ idle-out mode ws room (b .1)
 
@@ -181,83 +184,86 @@ quiet-cons mode q next w ws end e o rest = record { to = ap (λ (x : Now). runTo
     at zero = refl
     at (suc j) = ap₂ (λ (hs : List Heard) (x : Now). hs ++ runOut mode x (take j ws)) o e ∙ rest .out j
 
-quiet-next : (mode : ℕ) (p next : Phase) (room : List ℕ) (w : ℕ) (ws : List ℕ) (end : Now) → stepOf (length room) p w ≡ on next
+quiet-next : (mode : ℕ) (p next : Phase) (room : List ℕ) (w : ℕ) (ws : List ℕ) (end : Now) → stepOf mode (length room) p w ≡ on next
     → Quiet mode (now next room) ws end → Quiet mode (now p room) (w ∷ ws) end
 quiet-next mode p next room w ws end e rest =
     quiet-cons mode (now p room) (now next room) w ws end (quiet-to mode p next room w e) (quiet-out mode p next room w e) rest
 
 -- ---- the steps of a block's words
-separator-step : (room : ℕ) → stepOf room Idle separator ≡ on Kind
+pub separator-step : (mode room : ℕ) → stepOf mode room Idle separator ≡ on Kind
 unfolding stepOf classOf isByte isData pick
-separator-step room = refl
+separator-step mode room = refl
 
-byte-step : (room : ℕ) (p : Phase) (v : ℕ) → v < 256 → stepOf room p (byteWord v) ≡ stepBy room p Byte v
+pub byte-step : (mode room : ℕ) (p : Phase) (v : ℕ) → v < 256 → stepOf mode room p (byteWord v) ≡ stepBy mode room p Byte v
 unfolding stepOf
-byte-step room p v h = ap₂ (stepBy room p) (class-byte (byteWord v) (byte-any v)) (byte-low v h)
+byte-step mode room p v h = ap₂ (stepBy mode room p) (class-byte (byteWord v) (byte-any v)) (byte-low v h)
 
-count-value : (n : ℕ) → n ≤ most → n % 256 + n / 256 % 256 * 256 + n / 65536 % 256 * 65536 + n / 16777216 % 256 * 16777216 ≡ n
+pub count-value : (n : ℕ) → n ≤ most → n % 256 + n / 256 % 256 * 256 + n / 65536 % 256 * 65536 + n / 16777216 % 256 * 16777216 ≡ n
 count-value n h = omega arith
 
-counted-fits : (room k n : ℕ) → n ≤ room → counted room k n ≡ on (Data k n 0)
+pub counted-fits : (room : ℕ) (k : Mark) (n : ℕ) → n ≤ room → counted room k n ≡ on (Data k n 0)
 unfolding counted
 counted-fits room k n h = pick-false (dropped 3) (on (Data k n 0)) (le-ltb room n h)
 
-last-count-step : (room k n : ℕ) → n ≤ most → n ≤ room
-    → stepOf room (Fourth k (n % 256) (n / 256 % 256) (n / 65536 % 256)) (byteWord (n / 16777216 % 256)) ≡ on (Data k n 0)
-last-count-step room k n m h = byte-step room _ _ (omega arith) ∙ ap (counted room k) (count-value n m) ∙ counted-fits room k n h
+last-count-step : (mode room : ℕ) (k : Mark) (n : ℕ) → n ≤ most → n ≤ room
+    → stepOf mode room (Fourth k (n % 256) (n / 256 % 256) (n / 65536 % 256)) (byteWord (n / 16777216 % 256)) ≡ on (Data k n 0)
+last-count-step mode room k n m h = byte-step mode room _ _ (omega arith) ∙ ap (counted room k) (count-value n m) ∙ counted-fits room k n h
 
-value-fits : (room k n m : ℕ) → m < n → m < room → valueStep room k n m ≡ collecting k n m
+value-fits : (room : ℕ) (k : Mark) (n m : ℕ) → m < n → m < room → valueStep false room k n m ≡ collecting k n m
 unfolding valueStep
 value-fits room k n m a b = value-kept room k n m (and-none (not (eqb n 0)) (leb n m) (lt-leb n m a)) b
 
-data-step : (mode room k n m v : ℕ) → ltb v (values mode) ≡ true → m < n → m < room → stepOf room (Data k n m) (wordOf mode v) ≡ collecting k n m
+-- what is laid as a value is no code, and in 8-bit mode not 100h
+data-step : (mode room : ℕ) (k : Mark) (n m v : ℕ) → ltb v (values mode) ≡ true → m < n → m < room → stepOf mode room (Data k n m) (wordOf mode v) ≡ collecting k n m
 unfolding stepOf
 data-step mode room k n m v e a b =
-    data-class room k n m (classOf (wordOf mode v)) (data-no-code (wordOf mode v) (value-data mode v e)) ∙ value-fits room k n m a b
+    data-class mode room k n m (classOf (wordOf mode v)) (false-or (data-no-code (wordOf mode v) (value-data mode v e)) (value-some mode v))
+    ∙ value-fits room k n m a b
 
-end-step : (room k n : ℕ) → stepOf room (Data k n n) endCode ≡ record { phase = Idle; met = Whole k n; keeps = false }
+end-step : (mode room k n : ℕ) → stepOf mode room (Data (Typed k) n n) endCode ≡ record { phase = Idle; met = Whole k n; keeps = false }
 unfolding stepOf classOf isByte isData pick endStep
-end-step room k n = pick-true _ _ (or-right (eqb n 0) (eqb n n) (eq-eqb n n refl))
+end-step mode room k n = pick-true _ _ (or-right (eqb n 0) (eqb n n) (eq-eqb n n refl))
 
 -- ---- all but the last word of a block
 module _ (mode kind n : ℕ) where
   quiet-values : (vs : List ℕ) (m : ℕ) (room : List ℕ) → m + length vs ≡ n → n ≤ length room → valued mode vs ≡ true
-      → Quiet mode (now (Data kind n m) room) (map (wordOf mode) vs) (now (Data kind n n) (sets room m vs))
+      → Quiet mode (now (Data (Typed kind) n m) room) (map (wordOf mode) vs) (now (Data (Typed kind) n n) (sets room m vs))
   unfolding valued
   quiet-values [] m room e h a =
       let at : m ≡ n = omega arith in
-      record { to = ap (λ (k : ℕ). now (Data kind n k) room) at; out = none }
+      record { to = ap (λ (k : ℕ). now (Data (Typed kind) n k) room) at; out = none }
     where
-      none : (j : ℕ) → runOut mode (now (Data kind n m) room) (take j []) ≡ []
+      none : (j : ℕ) → runOut mode (now (Data (Typed kind) n m) room) (take j []) ≡ []
       none zero = refl
       none (suc j) = refl
   quiet-values (v ∷ vs) m room e h a =
       let b = both-true (ltb v (values mode)) (each (λ v. ltb v (values mode)) vs) a in
       let w = wordOf mode v in
-      let s : stepOf (length room) (Data kind n m) w ≡ collecting kind n m = data-step mode (length room) kind n m v (b .0) (omega arith) (omega arith) in
-      let set-it : now (Data kind n (m + 1)) (set room m (valueOf mode w)) ≡ now (Data kind n (suc m)) (set room m v) =
-      ap₂ (λ (k x : ℕ). now (Data kind n k) (set room m x)) (add-one m) (value-back mode v (ltb-true v (values mode) (b .0))) in
-      quiet-cons mode (now (Data kind n m) room) (now (Data kind n (suc m)) (set room m v)) w (map (wordOf mode) vs) _
-      (value-to mode kind n m room w s ∙ set-it)
-      (value-out mode kind n m room w s)
+      let s : stepOf mode (length room) (Data (Typed kind) n m) w ≡ collecting (Typed kind) n m = data-step mode (length room) (Typed kind) n m v (b .0) (omega arith) (omega arith) in
+      let set-it : now (Data (Typed kind) n (m + 1)) (set room m (valueOf mode w)) ≡ now (Data (Typed kind) n (suc m)) (set room m v) =
+      ap₂ (λ (k x : ℕ). now (Data (Typed kind) n k) (set room m x)) (add-one m) (value-back mode v (ltb-true v (values mode) (b .0))) in
+      quiet-cons mode (now (Data (Typed kind) n m) room) (now (Data (Typed kind) n (suc m)) (set room m v)) w (map (wordOf mode) vs) _
+      (value-to mode (Typed kind) n m room w s ∙ set-it)
+      (value-out mode (Typed kind) n m room w s)
       (quiet-values vs (suc m) (set room m v) (omega arith) (rw (length-set room m v) h) (b .1))
 
 abbrev front : ℕ → ℕ → List ℕ → List ℕ
 front mode kind vs = separator ∷ byteWord kind ∷ countWords (length vs) ++ map (wordOf mode) vs
 
 quiet-front : (mode kind : ℕ) (vs : List ℕ) → Shaped mode kind vs → (room : List ℕ) → length vs ≤ length room
-    → Quiet mode (idle room) (front mode kind vs) (now (Data kind (length vs) (length vs)) (sets room 0 vs))
+    → Quiet mode (idle room) (front mode kind vs) (now (Data (Typed kind) (length vs) (length vs)) (sets room 0 vs))
 unfolding countWords
 quiet-front mode kind vs s room h =
     let n = length vs in
     let r = length room in
-    quiet-next mode Idle Kind room _ _ _ (separator-step r)
-    (quiet-next mode Kind (First kind) room _ _ _ (byte-step r Kind kind (omega (arith, s .small)))
-    (quiet-next mode (First kind) (Second kind (n % 256)) room _ _ _ (byte-step r (First kind) (n % 256) (omega arith))
-    (quiet-next mode (Second kind (n % 256)) (Third kind (n % 256) (n / 256 % 256)) room _ _ _ (byte-step r (Second kind (n % 256)) (n / 256 % 256) (omega arith))
-    (quiet-next mode (Third kind (n % 256) (n / 256 % 256)) (Fourth kind (n % 256) (n / 256 % 256) (n / 65536 % 256)) room _ _ _
-    (byte-step r (Third kind (n % 256) (n / 256 % 256)) (n / 65536 % 256) (omega arith))
-    (quiet-next mode (Fourth kind (n % 256) (n / 256 % 256) (n / 65536 % 256)) (Data kind n 0) room _ _ _ (last-count-step r kind n (s .at-most) h)
+    let k = Typed kind in
+    quiet-next mode Idle Kind room _ _ _ (separator-step mode r)
+    (quiet-next mode Kind (First k) room _ _ _ (byte-step mode r Kind kind (omega (arith, s .small)))
+    (quiet-next mode (First k) (Second k (n % 256)) room _ _ _ (byte-step mode r (First k) (n % 256) (omega arith))
+    (quiet-next mode (Second k (n % 256)) (Third k (n % 256) (n / 256 % 256)) room _ _ _ (byte-step mode r (Second k (n % 256)) (n / 256 % 256) (omega arith))
+    (quiet-next mode (Third k (n % 256) (n / 256 % 256)) (Fourth k (n % 256) (n / 256 % 256) (n / 65536 % 256)) room _ _ _
+    (byte-step mode r (Third k (n % 256) (n / 256 % 256)) (n / 65536 % 256) (omega arith))
+    (quiet-next mode (Fourth k (n % 256) (n / 256 % 256) (n / 65536 % 256)) (Data k n 0) room _ _ _ (last-count-step mode r k n (s .at-most) h)
     (quiet-values mode kind n vs 0 room (zero-add n) h (s .values-fit)))))))
 
 -- ---- a whole block
@@ -269,14 +275,14 @@ block-is : (mode kind : ℕ) (vs : List ℕ) → blockWords mode kind vs ≡ fro
 unfolding blockWords countWords
 block-is mode kind vs = refl
 
-end-to : (mode k n : ℕ) (room : List ℕ) → stepTo mode (now (Data k n n) room) endCode ≡ idle room
+end-to : (mode k n : ℕ) (room : List ℕ) → stepTo mode (now (Data (Typed k) n n) room) endCode ≡ idle room
 unfolding stepTo stored pick
 end-to mode k n room =
-    ap (λ (s : Step). now (s .phase) (stored (s .keeps) n (valueOf mode endCode) room)) (end-step (length room) k n)
+    ap (λ (s : Step). now (s .phase) (stored (s .keeps) n (valueOf mode endCode) room)) (end-step mode (length room) k n)
 
-end-out : (mode k n : ℕ) (room : List ℕ) → stepOut mode (now (Data k n n) room) endCode ≡ is-block (record { kind = k; values = take n room }) ∷ []
+end-out : (mode k n : ℕ) (room : List ℕ) → stepOut mode (now (Data (Typed k) n n) room) endCode ≡ is-block (record { kind = k; values = take n room }) ∷ []
 unfolding stepOut
-end-out mode k n room = ap₂ (λ (s : Step) (q : Now). metHeard (s .met) (q .room)) (end-step (length room) k n) (end-to mode k n room)
+end-out mode k n room = ap₂ (λ (s : Step) (q : Now). metHeard (s .met) (q .room)) (end-step mode (length room) k n) (end-to mode k n room)
 
 values-back : (vs room : List ℕ) → length vs ≤ length room → take (length vs) (sets room 0 vs) ≡ vs
 values-back vs room h =

@@ -33,6 +33,7 @@ use Rattle.writer.specs.Closing.{closeFaults, closing}
 use Rattle.writer.specs.Batch.{Entry, whole, stopNumbers, Batched, layAll, batchFaults, batching}
 use Rattle.writer.proofs.BatchLaws.{entries-one}
 use Rattle.machine.specs.Phases.{phaseNumbers}
+use Rattle.machine.specs.declared.phase.Mark.the-variants.{Typed}
 use Rattle.machine.specs.declared.phase.Phase.the-variants.{Data}
 use Rattle.reader.specs.declared.state.Reader.{Reader}
 use Rattle.reader.specs.State.{impossibleIn}
@@ -280,7 +281,7 @@ entry-whole s line kind vs is = ap (λ (b : Batched). b .finished) (demand-1 .en
 -- ---- the reader of system 1 in 9-bit mode
 -- after line 7, with 60 values collected of a block of type 5 with 100
 abbrev pub collecting : Settings → Place → Reader
-collecting s place = record { system = 1; mode = 9; last = Number 7; settings = s; place = place; phase = Data 5 100 60 }
+collecting s place = record { system = 1; mode = 9; last = Number 7; settings = s; place = place; phase = Data (Typed 5) 100 60 }
 
 -- 2, with a line begun: an open block is not dropped
 pub read-2 : (s : Settings) (line room : List ℕ) → impossibleIn 16384 (collecting s (At 3)) ≡ true

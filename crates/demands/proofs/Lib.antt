@@ -39,6 +39,8 @@ pub mod Demand1Holds
 pub mod Listed
 pub mod Demand2Holds
 pub mod RunningHolds
+pub mod NullsHold
+pub mod NullsCited
 pub mod FrameCourse
 pub mod FrameNeeded
 pub mod AsLent

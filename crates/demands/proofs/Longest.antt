@@ -48,9 +48,9 @@ use Rattle.demands.specs.Allowed.{Longest}
 use Rattle.demands.proofs.LineLends.{words-first}
 
 -- the one step: in an open phase 309h is drop 1 and then type awaited
-again-step : (room : ℕ) → again ≡ stepOf room Kind 0x309
+again-step : (mode room : ℕ) → again ≡ stepOf mode room Kind 0x309
 unfolding stepOf classOf isByte isData pick
-again-step room = refl
+again-step mode room = refl
 
 -- a variable line of that code, flag 00h
 settings : ℕ → Settings
@@ -164,7 +164,7 @@ module _ (system mode : ℕ) (known : isSystem system ≡ true) (moded : isMode 
       by-place (at q) line room (At q) ok refl
       ∙ ap (goesFrom (at q) q)
       (ap (λ (ws : List ℕ). walkOf mode Kind ws room) (words q (suc n) e)
-      ∙ word-stops mode Kind 0x309 (replicate n 0x309) room again (again-step (length room)) room refl refl)
+      ∙ word-stops mode Kind 0x309 (replicate n 0x309) room again (again-step mode (length room)) room refl refl)
 
   not-yet : (n q : ℕ) → q + n ≡ systemOf system .payload → readFault (at q) (length line) (length room) ≡ 0 → endsWithin n (at q) line room ≡ false
   not-yet zero q e ok = refl

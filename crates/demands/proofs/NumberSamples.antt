@@ -4,6 +4,7 @@ use mathlib.Core.Bool.{true, false}
 use mathlib.Core.List.{[], _∷_, map}
 use mathlib.Core.Path.{_≡_, refl}
 use lib.IntN.{pos, negsuc}
+use Rattle.machine.specs.declared.phase.Mark.the-variants.{Typed, Nulled}
 use Rattle.machine.specs.declared.phase.Phase.the-variants.{Idle, Kind, First, Second, Third, Fourth, Data}
 use Rattle.machine.specs.Phases.{phaseNumbers}
 use Rattle.writer.specs.declared.state.Answer.the-variants.{Refused as NotDone, Done}
@@ -29,6 +30,11 @@ pub laid-numbers : map laidNumbers (NotLaid 17 ∷ Finished ∷ Unfinished ∷ [
 laid-numbers = refl
 
 -- idle; type awaited; count awaited with type 5 and none, one, two and three bytes; data of type 5, 9 announced and 4 collected
-pub phase-numbers : map phaseNumbers (Idle ∷ Kind ∷ First 5 ∷ Second 5 6 ∷ Third 5 6 7 ∷ Fourth 5 6 7 8 ∷ Data 5 9 4 ∷ [])
+pub phase-numbers : let k = Typed 5 in map phaseNumbers (Idle ∷ Kind ∷ First k ∷ Second k 6 ∷ Third k 6 7 ∷ Fourth k 6 7 8 ∷ Data k 9 4 ∷ [])
     ≡ (0 ∷ []) ∷ (1 ∷ []) ∷ (2 ∷ 5 ∷ []) ∷ (2 ∷ 5 ∷ 6 ∷ []) ∷ (2 ∷ 5 ∷ 6 ∷ 7 ∷ []) ∷ (2 ∷ 5 ∷ 6 ∷ 7 ∷ 8 ∷ []) ∷ (3 ∷ 5 ∷ 9 ∷ 4 ∷ []) ∷ []
 phase-numbers = refl
+
+-- the same of a null
+pub null-numbers : map phaseNumbers (First Nulled ∷ Second Nulled 6 ∷ Third Nulled 6 7 ∷ Fourth Nulled 6 7 8 ∷ Data Nulled 9 4 ∷ [])
+    ≡ (4 ∷ []) ∷ (4 ∷ 6 ∷ []) ∷ (4 ∷ 6 ∷ 7 ∷ []) ∷ (4 ∷ 6 ∷ 7 ∷ 8 ∷ []) ∷ (5 ∷ 9 ∷ 4 ∷ []) ∷ []
+null-numbers = refl

@@ -1,42 +1,53 @@
 -- The places of a fixed line: a place that an addition laid is handed out, an empty one is skipped, and a line falls into the places laid on it.
 -- Assumes nothing.
 use Prim.Native.Nat.{ℕ, zero, suc, _+_, _-_, _*_, _≤_}
-use mathlib.Core.Bool.{true}
+use mathlib.Core.Bool.{Bool, true, false, _&&_, _||_}
 use mathlib.Core.List.{List, [], _∷_, _++_, map, append-assoc}
 use mathlib.Core.Path.{_≡_, refl, sym, ap, ap₂, _∙_}
 use native.Mathlib.Nat.{suc-mul}
 use native.Mathlib.Omega.{arith}
-use lib.Dec.{ltb}
-use lib.ListN.{length, getD, take, drop, replicate, length-drop, length-map}
+use lib.Dec.{eqb, ltb}
+use lib.ListN.{length, take, drop, replicate, length-drop, length-map}
 use lib.Seq.{take-at, drop-at, take-take}
 use borrow.Author.Tests.{ltb-true}
 use Rattle.lists.specs.Tests.{pick}
+use Rattle.lists.proofs.Tests.{and-none, false-or}
 use Rattle.lists.proofs.Lists.{map-back, take-filler, drop-filler}
 use Rattle.words.specs.Forms.{isByte, isData, byteWord}
 use Rattle.words.specs.Modes.{values, wordOf, valueOf}
 use Rattle.words.specs.Class.{classOf}
-use Rattle.words.specs.declared.class.Class.{Class}
 use Rattle.words.proofs.FormLaws.{byte-low, value-back}
-use Rattle.words.proofs.ClassLaws.{class-byte}
 use Rattle.machine.specs.declared.step.Met.{Met}
 use Rattle.machine.specs.declared.step.Met.the-variants.{Nothing, Whole}
-use Rattle.machine.specs.Places.{placesIn, placeMet, metAt, placeRoom}
+use Rattle.machine.specs.Places.{placesIn, hasNull, metAt, placeRoom}
 use Rattle.machine.proofs.Kept.{laid-long}
 use Rattle.machine.proofs.PlaceLaws.{met-whole}
 use Rattle.writer.specs.Block.{fixedWords}
 use Rattle.writer.specs.Adding.{valued}
 use Rattle.writer.specs.Filling.{joined}
-use Rattle.writer.proofs.Legal.{byte-any}
+use Rattle.writer.proofs.Legal.{byte-any, value-some}
 use Rattle.demands.specs.Hearing.{Heard, is-block}
 use Rattle.demands.proofs.Run.{metHeard, placeTo, placeOut, placesTo, placesOut}
 use Rattle.demands.proofs.DeskOk.{AllLong}
 
 -- ---- a place that an addition laid
-met-given : (kind n : ℕ) → kind ≤ 255 → 1 ≤ kind → metAt (byteWord kind) n ≡ Whole kind n
-unfolding metAt
-met-given kind n h one =
-    ap₂ (λ (c : Class) (k : ℕ). placeMet c k n) (class-byte (byteWord kind) (byte-any kind)) (byte-low kind (omega arith))
-    ∙ met-whole kind n (λ e. omega arith)
+-- 100h is not among its values' words in 8-bit mode
+no-null : (mode : ℕ) (vs : List ℕ) → (eqb mode 8 && hasNull (map (wordOf mode) vs)) ≡ false
+unfolding hasNull
+no-null mode [] = and-none (eqb mode 8) false refl
+no-null mode (v ∷ vs) = none-more (eqb mode 8) _ _ (value-some mode v) (no-null mode vs)
+  where
+    none-more : (b x y : Bool) → (b && x) ≡ false → (b && y) ≡ false → (b && (x || y)) ≡ false
+    none-more true x y e f = false-or e f
+    none-more false x y e f = refl
+
+met-given : (mode kind : ℕ) (vs : List ℕ) → kind ≤ 255 → 1 ≤ kind
+    → metAt mode (byteWord kind ∷ map (wordOf mode) vs) ≡ Whole kind (length (map (wordOf mode) vs))
+met-given mode kind vs h one =
+    let ws = map (wordOf mode) vs in
+    let low = byte-low kind (omega arith) in
+    met-whole mode (byteWord kind ∷ ws) (byte-any kind) (λ e. omega (arith, low, e)) (no-null mode vs)
+    ∙ ap₂ Whole low (sym (length-drop 1 (byteWord kind ∷ ws)))
 
 values-again : (mode : ℕ) (vs : List ℕ) → valued mode vs ≡ true → map (valueOf mode) (map (wordOf mode) vs) ≡ vs
 unfolding valued
@@ -54,8 +65,8 @@ pub place-given : (mode kind : ℕ) (vs room : List ℕ) → kind ≤ 255 → 1 
 unfolding placeOut placeTo fixedWords
 place-given mode kind vs room h one e =
     let ws = map (wordOf mode) vs in
-    given-by (metAt (byteWord kind) (length ws)) kind (length ws) (map (valueOf mode) ws) vs room
-    (met-given kind (length ws) h one) (values-again mode vs e) (sym (length-map vs (wordOf mode)))
+    given-by (metAt mode (byteWord kind ∷ ws)) kind (length ws) (map (valueOf mode) ws) vs room
+    (met-given mode kind vs h one) (values-again mode vs e) (sym (length-map vs (wordOf mode)))
 
 -- ---- the room keeps its length
 pub place-room : (mode : ℕ) (x room : List ℕ) → length x ≤ suc (length room) → length (placeTo mode x room) ≡ length room
@@ -63,24 +74,24 @@ unfolding placeTo
 place-room mode x room h =
     let e = length-map (drop 1 x) (valueOf mode) in
     let d = length-drop 1 x in
-    laid-long (metAt (getD x 0 0) (length (drop 1 x))) (map (valueOf mode) (drop 1 x)) room (omega (arith, e, d))
+    laid-long (metAt mode x) (map (valueOf mode) (drop 1 x)) room (omega (arith, e, d))
 
 -- ---- an empty place
-filler-met : (n : ℕ) → metAt 0x200 n ≡ Nothing
+filler-met : (mode : ℕ) (ws : List ℕ) → metAt mode (0x200 ∷ ws) ≡ Nothing
 unfolding metAt classOf isByte isData pick
-filler-met n = refl
+filler-met mode ws = refl
 
 pub place-stays : (mode size : ℕ) (room : List ℕ) → 1 ≤ size → placeTo mode (replicate size 0x200) room ≡ room
 unfolding placeTo
 place-stays mode zero room h = absurd (omega arith)
 place-stays mode (suc n) room h =
-    ap (λ (m : Met). placeRoom m (map (valueOf mode) (replicate n 0x200)) room) (filler-met (length (replicate n 0x200)))
+    ap (λ (m : Met). placeRoom m (map (valueOf mode) (replicate n 0x200)) room) (filler-met mode (replicate n 0x200))
 
 pub place-empty : (mode size : ℕ) (room : List ℕ) → 1 ≤ size → placeOut mode (replicate size 0x200) room ≡ []
 unfolding placeOut
 place-empty mode zero room h = absurd (omega arith)
 place-empty mode (suc n) room h =
-    ap (λ (m : Met). metHeard m (placeTo mode (replicate (suc n) 0x200) room)) (filler-met (length (replicate n 0x200)))
+    ap (λ (m : Met). metHeard m (placeTo mode (replicate (suc n) 0x200) room)) (filler-met mode (replicate n 0x200))
 
 -- ---- places in two parts
 pub places-to-append : (mode : ℕ) (room : List ℕ) (xs ys : List (List ℕ)) → placesTo mode room (xs ++ ys) ≡ placesTo mode (placesTo mode room xs) ys

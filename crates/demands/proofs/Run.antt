@@ -2,7 +2,7 @@
 -- Assumes nothing.
 use Prim.Native.Nat.{ℕ}
 use mathlib.Core.List.{List, [], _∷_, _++_, map}
-use lib.ListN.{length, getD, take, drop}
+use lib.ListN.{length, take, drop}
 use Rattle.words.specs.Modes.{valueOf}
 use Rattle.machine.specs.declared.phase.Phase.{Phase}
 use Rattle.machine.specs.declared.phase.Phase.the-variants.{Idle}
@@ -33,11 +33,11 @@ metHeard (Lost n) room = is-drop n ∷ []
 -- one word
 unfoldable pub stepTo : ℕ → Now → ℕ → Now
 stepTo mode q w =
-    let s = stepOf (length (q .room)) (q .phase) w in
+    let s = stepOf mode (length (q .room)) (q .phase) w in
     now (s .phase) (stored (s .keeps) (collectedOf (q .phase)) (valueOf mode w) (q .room))
 
 unfoldable pub stepOut : ℕ → Now → ℕ → List Heard
-stepOut mode q w = metHeard (stepOf (length (q .room)) (q .phase) w .met) (stepTo mode q w .room)
+stepOut mode q w = metHeard (stepOf mode (length (q .room)) (q .phase) w .met) (stepTo mode q w .room)
 
 -- words one after another
 abbrev pub runTo : ℕ → Now → List ℕ → Now
@@ -50,10 +50,10 @@ runOut mode q (w ∷ ws) = stepOut mode q w ++ runOut mode (stepTo mode q w) ws
 
 -- a place of a fixed line
 unfoldable pub placeTo : ℕ → List ℕ → List ℕ → List ℕ
-placeTo mode x room = placeRoom (metAt (getD x 0 0) (length (drop 1 x))) (map (valueOf mode) (drop 1 x)) room
+placeTo mode x room = placeRoom (metAt mode x) (map (valueOf mode) (drop 1 x)) room
 
 unfoldable pub placeOut : ℕ → List ℕ → List ℕ → List Heard
-placeOut mode x room = metHeard (metAt (getD x 0 0) (length (drop 1 x))) (placeTo mode x room)
+placeOut mode x room = metHeard (metAt mode x) (placeTo mode x room)
 
 abbrev pub placesTo : ℕ → List ℕ → List (List ℕ) → List ℕ
 placesTo mode room [] = room

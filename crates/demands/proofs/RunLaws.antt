@@ -26,7 +26,7 @@ run-out-append mode q (w ∷ xs) ys =
 -- ---- the room keeps its length
 pub step-room : (mode : ℕ) (q : Now) (w : ℕ) → length (stepTo mode q w .room) ≡ length (q .room)
 unfolding stepTo
-step-room mode q w = stored-long (stepOf (length (q .room)) (q .phase) w .keeps) (collectedOf (q .phase)) (valueOf mode w) (q .room)
+step-room mode q w = stored-long (stepOf mode (length (q .room)) (q .phase) w .keeps) (collectedOf (q .phase)) (valueOf mode w) (q .room)
 
 pub run-room : (mode : ℕ) (q : Now) (ws : List ℕ) → length (runTo mode q ws .room) ≡ length (q .room)
 run-room mode q [] = refl

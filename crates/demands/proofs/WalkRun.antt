@@ -7,7 +7,7 @@ use Prim.Native.Nat.{ℕ, suc, _+_, _*_, _≤_}
 use native.Mathlib.Nat.{zero-mul, one-mul, suc-mul}
 use native.Mathlib.Omega.{arith}
 use lib.Dec.{T}
-use lib.ListN.{length, getD, drop}
+use lib.ListN.{length, drop}
 use Rattle.words.specs.Modes.{valueOf}
 use Rattle.machine.specs.declared.phase.Phase.{Phase}
 use Rattle.machine.specs.declared.step.Met.{Met}
@@ -61,7 +61,7 @@ pub walk-runs : (mode : ℕ) (p : Phase) (ws room : List ℕ) → Runs mode p ws
 unfolding walkOf stepTo stepOut
 walk-runs mode p [] room = record { out = refl; to = refl; all = λ e. refl }
 walk-runs mode p (w ∷ ws) room =
-    let s = stepOf (length room) p w in
+    let s = stepOf mode (length room) p w in
     let r = stored (s .keeps) (collectedOf p) (valueOf mode w) room in
     word-runs mode p (s .phase) w ws room r (s .met) (walkOf mode (s .phase) ws r) refl refl (walk-runs mode (s .phase) ws r)
 
@@ -118,7 +118,7 @@ unfolding walkPlaces placeTo placeOut
 places-pass mode p [] room =
     record { count = 0; within = omega arith; taken = λ size l. sym (zero-mul size); phase = refl; out = refl; to = refl; all = λ e. refl }
 places-pass mode p (x ∷ xs) room =
-    let met = metAt (getD x 0 0) (length (drop 1 x)) in
+    let met = metAt mode x in
     let vs = map (valueOf mode) (drop 1 x) in
     place-passes mode p x xs room (placeRoom met vs room) met (walkPlaces mode p xs room) refl refl
     (λ e. ap (λ (m : Met). placeRoom m vs room) e) (places-pass mode p xs room)

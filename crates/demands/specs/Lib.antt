@@ -10,3 +10,4 @@ pub mod Demand3
 pub mod Running
 pub mod Batches
 pub mod Allowed
+pub mod Nulls

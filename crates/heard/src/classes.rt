@@ -12,6 +12,7 @@ fn digit_of(c: Class) -> u8 {
         Class::Separator => b'3',
         Class::Ending => b'4',
         Class::Illegal => b'5',
+        Class::Null => b'6',
     }
 }
 
@@ -52,7 +53,7 @@ fn put_sixty_four(n: u64) {
 }
 
 // `Kinds FROM`, row `kinds FROM DIGITS`: the classes of 256 numbers, FROM being a multiple of 256: 1 byte form, 2 other data form, 3 separator,
-// 4 end code, 5 illegal.
+// 4 end code, 5 illegal, 6 the null word 100h.
 pub(crate) fn kinds(ns: &[u64]) {
     let n = steps::at(ns, 0);
     rows::say(b"kinds");

@@ -2,6 +2,7 @@
 use course::Last;
 use course::Place;
 use line::settings::Settings;
+use machine::phase::Mark;
 use machine::phase::Phase;
 use reader::state::Reader;
 use writer::state::Rest;
@@ -16,19 +17,35 @@ fn numbers_of_last(last: Last) -> [u64; 2] {
     }
 }
 
+// The type, or 256 for a null.
+fn number_of_mark(mark: Mark) -> u64 {
+    match mark {
+        Mark::Typed(kind) => kind as u64,
+        Mark::Nulled => 256,
+    }
+}
+
 fn numbers_of_phase(phase: Phase) -> [u64; 5] {
     match phase {
         Phase::Idle => [0, 0, 0, 0, 0],
         Phase::Kind => [1, 0, 0, 0, 0],
-        Phase::First { kind } => [2, kind as u64, 0, 0, 0],
-        Phase::Second { kind, b0 } => [3, kind as u64, b0 as u64, 0, 0],
-        Phase::Third { kind, b0, b1 } => [4, kind as u64, b0 as u64, b1 as u64, 0],
-        Phase::Fourth { kind, b0, b1, b2 } => { [5, kind as u64, b0 as u64, b1 as u64, b2 as u64] }
+        Phase::First { mark } => [2, number_of_mark(mark), 0, 0, 0],
+        Phase::Second { mark, b0 } => [3, number_of_mark(mark), b0 as u64, 0, 0],
+        Phase::Third { mark, b0, b1 } => [4, number_of_mark(mark), b0 as u64, b1 as u64, 0],
+        Phase::Fourth { mark, b0, b1, b2 } => {
+            [5, number_of_mark(mark), b0 as u64, b1 as u64, b2 as u64]
+        }
         Phase::Data {
-            kind,
+            mark,
             announced,
             collected,
-        } => [6, kind as u64, announced as u64, collected as u64, 0],
+        } => [
+            6,
+            number_of_mark(mark),
+            announced as u64,
+            collected as u64,
+            0,
+        ],
     }
 }
 

@@ -1,12 +1,13 @@
 // A state as 52 numbers, so that a step can put it into any value, possible or not, and a row can show all of it:
 // 0 system, 1 mode, 2 whether there is a last number, 3 that number and, of the writer, 65,536 times the words used of the gap, 4 whether a line is begun (open), 5 the place in it;
 // 6 to 10 the reader's phase: 0 idle, 1 type awaited, 2 to 5 a count byte awaited with type and bytes so far, 6 data with type,
-// announced and collected; of the writer 6 to 9 whether a block is unfinished, and its type, n and words laid, and 10 the CRC of this line;
+// announced and collected, the type 256 being a null's mark; of the writer 6 to 9 whether a block is unfinished, and its type, n and words laid, and 10 the CRC of this line;
 // 11 code, 12 AAI, 13 block type, 14 flag, 15 to 30 destination, 31 to 46 source, 47 to 51 reserved.
 // What is not held is 0 in a state that a call left. A heading has the same form, and only its settings count.
 use course::Last;
 use course::Place;
 use line::settings::Settings;
+use machine::phase::Mark;
 use machine::phase::Phase;
 use reader::state::Reader;
 use writer::state::Rest;
@@ -37,29 +38,37 @@ fn place_of(s: &[u64; 52]) -> Place {
     Place::At(s[5] as usize)
 }
 
+// A type, or by 256 a null.
+fn mark_of(x: u64) -> Mark {
+    if x == 256 {
+        return Mark::Nulled;
+    }
+    Mark::Typed(byte(x))
+}
+
 fn phase_of(s: &[u64; 52]) -> Phase {
-    let kind = byte(s[7]);
+    let mark = mark_of(s[7]);
     let b0 = byte(s[8]);
     let b1 = byte(s[9]);
     let b2 = byte(s[10]);
     match s[6] {
         0 => Phase::Idle,
         1 => Phase::Kind,
-        2 => Phase::First { kind: kind },
-        3 => Phase::Second { kind: kind, b0: b0 },
+        2 => Phase::First { mark: mark },
+        3 => Phase::Second { mark: mark, b0: b0 },
         4 => Phase::Third {
-            kind: kind,
+            mark: mark,
             b0: b0,
             b1: b1,
         },
         5 => Phase::Fourth {
-            kind: kind,
+            mark: mark,
             b0: b0,
             b1: b1,
             b2: b2,
         },
         _ => Phase::Data {
-            kind: kind,
+            mark: mark,
             announced: s[8] as usize,
             collected: s[9] as usize,
         },

@@ -9,14 +9,14 @@ use native.Mathlib.Omega.{arith}
 use lib.Dec.{T, eqb, ltb, lit<}
 use lib.Bits.{bitAnd}
 use lib.ListN.{length, getD}
-use borrow.Author.Tests.{lt-ltb}
+use borrow.Author.Tests.{lt-ltb, eqb-true}
 use Rattle.lists.specs.Tests.{pick}
 use Rattle.lists.specs.Lists.{each}
 use Rattle.lists.proofs.Tests.{both-true, lt-or-le}
 use Rattle.words.specs.Forms.{isByte, isData}
-use Rattle.words.specs.Class.{classOf, separator, endCode}
+use Rattle.words.specs.Class.{classOf, separator, endCode, nullWord}
 use Rattle.words.specs.declared.class.Class.{Class}
-use Rattle.words.specs.declared.class.Class.the-variants.{Byte, Other, Separator, Ending, Illegal}
+use Rattle.words.specs.declared.class.Class.the-variants.{Byte, Other, Separator, Ending, Illegal, Null}
 use Rattle.words.specs.Table.{classBit, classTable, bitIn, orOf}
 use Rattle.words.proofs.FormLaws.{byte-data}
 use Rattle.words.proofs.ClassLaws.{code-not-data}
@@ -40,49 +40,55 @@ allowed eight variable Other = not eight
 allowed eight variable Separator = variable
 allowed eight variable Ending = variable
 allowed eight variable Illegal = false
+allowed eight variable Null = true
 
-abbrev classBy : Bool → Bool → Bool → Bool → Class
-classBy b d s e = pick b Byte (pick d Other (pick s Separator (pick e Ending Illegal)))
+abbrev classBy : Bool → Bool → Bool → Bool → Bool → Class
+classBy b z d s e = pick b Byte (pick z Null (pick d Other (pick s Separator (pick e Ending Illegal))))
 
-abbrev legalBy : Bool → Bool → Bool → Bool → Bool → Bool → Bool
-legalBy eight variable b d s e = pick eight b d || (variable && (s || e))
+abbrev legalBy : Bool → Bool → Bool → Bool → Bool → Bool → Bool → Bool
+legalBy eight variable b z d s e = pick eight (b || z) d || (variable && (s || e))
 
 never : {A : Type 0} → true ≡ false → A
 never e = absurd (subst T e tt)
 
--- the tests in their order: what is in byte form is in data form, and a code is not
-by-tests : (eight variable b d s e : Bool) → (b ≡ true → d ≡ true) → (s ≡ true → d ≡ false) → (e ≡ true → d ≡ false)
-    → legalBy eight variable b d s e ≡ allowed eight variable (classBy b d s e)
+-- the tests in their order: what is in byte form, and 100h, is in data form, and a code is not
+by-tests : (eight variable b z d s e : Bool) → (b ≡ true → d ≡ true) → (z ≡ true → d ≡ true) → (s ≡ true → d ≡ false) → (e ≡ true → d ≡ false)
+    → legalBy eight variable b z d s e ≡ allowed eight variable (classBy b z d s e)
 unfolding pick
-by-tests eight variable true false s e p q r = never (sym (p refl))
-by-tests eight variable b true true e p q r = never (q refl)
-by-tests eight variable b true false true p q r = never (r refl)
-by-tests true true true true false false p q r = refl
-by-tests true false true true false false p q r = refl
-by-tests false true true true false false p q r = refl
-by-tests false false true true false false p q r = refl
-by-tests true true false true false false p q r = refl
-by-tests true false false true false false p q r = refl
-by-tests false true false true false false p q r = refl
-by-tests false false false true false false p q r = refl
-by-tests true true false false true e p q r = refl
-by-tests true false false false true e p q r = refl
-by-tests false true false false true e p q r = refl
-by-tests false false false false true e p q r = refl
-by-tests true true false false false true p q r = refl
-by-tests true false false false false true p q r = refl
-by-tests false true false false false true p q r = refl
-by-tests false false false false false true p q r = refl
-by-tests true true false false false false p q r = refl
-by-tests true false false false false false p q r = refl
-by-tests false true false false false false p q r = refl
-by-tests false false false false false false p q r = refl
+by-tests eight variable true z false s e p n q r = never (sym (p refl))
+by-tests eight variable false true false s e p n q r = never (sym (n refl))
+by-tests eight variable b z true true e p n q r = never (q refl)
+by-tests eight variable b z true false true p n q r = never (r refl)
+by-tests true true true z true false false p n q r = refl
+by-tests true false true z true false false p n q r = refl
+by-tests false true true z true false false p n q r = refl
+by-tests false false true z true false false p n q r = refl
+by-tests true true false true true false false p n q r = refl
+by-tests true false false true true false false p n q r = refl
+by-tests false true false true true false false p n q r = refl
+by-tests false false false true true false false p n q r = refl
+by-tests true true false false true false false p n q r = refl
+by-tests true false false false true false false p n q r = refl
+by-tests false true false false true false false p n q r = refl
+by-tests false false false false true false false p n q r = refl
+by-tests true true false false false true e p n q r = refl
+by-tests true false false false false true e p n q r = refl
+by-tests false true false false false true e p n q r = refl
+by-tests false false false false false true e p n q r = refl
+by-tests true true false false false false true p n q r = refl
+by-tests true false false false false false true p n q r = refl
+by-tests false true false false false false true p n q r = refl
+by-tests false false false false false false true p n q r = refl
+by-tests true true false false false false false p n q r = refl
+by-tests true false false false false false false p n q r = refl
+by-tests false true false false false false false p n q r = refl
+by-tests false false false false false false false p n q r = refl
 
 pub legal-class : (mode : ℕ) (variable : Bool) (w : ℕ) → legal mode variable w ≡ allowed (eqb mode 8) variable (classOf w)
 unfolding legal classOf isData
 legal-class mode variable w =
-    by-tests (eqb mode 8) variable (isByte w) (isData w) (eqb w separator) (eqb w endCode) (byte-data w)
-    (code-not-data w separator refl) (code-not-data w endCode refl)
+    by-tests (eqb mode 8) variable (isByte w) (eqb w nullWord) (isData w) (eqb w separator) (eqb w endCode) (byte-data w)
+    (λ e. ap isData (eqb-true w nullWord e)) (code-not-data w separator refl) (code-not-data w endCode refl)
 
 -- ---- by the bits of the classes
 -- the bits of the classes that may not stand in an area, by whether the mode is 8-bit and the line variable
@@ -96,21 +102,25 @@ barred-allowed true true Other = refl
 barred-allowed true true Separator = refl
 barred-allowed true true Ending = refl
 barred-allowed true true Illegal = refl
+barred-allowed true true Null = refl
 barred-allowed true false Byte = refl
 barred-allowed true false Other = refl
 barred-allowed true false Separator = refl
 barred-allowed true false Ending = refl
 barred-allowed true false Illegal = refl
+barred-allowed true false Null = refl
 barred-allowed false true Byte = refl
 barred-allowed false true Other = refl
 barred-allowed false true Separator = refl
 barred-allowed false true Ending = refl
 barred-allowed false true Illegal = refl
+barred-allowed false true Null = refl
 barred-allowed false false Byte = refl
 barred-allowed false false Other = refl
 barred-allowed false false Separator = refl
 barred-allowed false false Ending = refl
 barred-allowed false false Illegal = refl
+barred-allowed false false Null = refl
 
 legal-bit : (mode : ℕ) (variable : Bool) (w : ℕ) → eqb (bitAnd (bitIn classTable w) (barredBits (eqb mode 8) variable)) 0 ≡ legal mode variable w
 legal-bit mode variable w =

@@ -9,7 +9,7 @@ use Rattle.lists.specs.Tests.{pick, Refusal, when, lowestOf}
 use Rattle.lists.specs.Lists.{part, same, each}
 use Rattle.words.specs.Forms.{bit, isByte, isData}
 use Rattle.words.specs.Modes.{isMode}
-use Rattle.words.specs.Class.{separator, endCode}
+use Rattle.words.specs.Class.{separator, endCode, nullWord}
 use Rattle.words.specs.Checksum.{checksum}
 use Rattle.words.specs.Crc.{crcWords}
 use Rattle.line.specs.declared.systems.System.{System}
@@ -77,9 +77,9 @@ headFaults s line =
     ∷ []
 
 -- ---- 15 and 16
--- data form (8-bit: byte form); 309h and 30Ah in variable lines only
+-- data form (8-bit: byte form, or 100h); 309h and 30Ah in variable lines only
 unfoldable pub legal : ℕ → Bool → ℕ → Bool
-legal mode variable w = pick (eqb mode 8) (isByte w) (isData w) || (variable && (eqb w separator || eqb w endCode))
+legal mode variable w = pick (eqb mode 8) (isByte w || eqb w nullWord) (isData w) || (variable && (eqb w separator || eqb w endCode))
 
 -- 15 area word not legal, or CRC word not data form; 16 payload CRC
 unfoldable pub areaFaults : ℕ → Bool → ℕ → List ℕ → List ℕ → List Refusal

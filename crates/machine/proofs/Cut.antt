@@ -7,7 +7,7 @@ use Prim.Native.Nat.{ℕ, zero, suc, _+_, _-_, _*_, _≤_}
 use native.Mathlib.Nat.{zero-mul, suc-mul}
 use native.Mathlib.Omega.{arith}
 use lib.Dec.{T}
-use lib.ListN.{length, getD, take, drop, length-drop}
+use lib.ListN.{length, take, drop, length-drop}
 use lib.Seq.{length-take-le, take-take, drop-drop}
 use Rattle.words.specs.Modes.{valueOf}
 use Rattle.machine.specs.declared.phase.Phase.{Phase}
@@ -30,7 +30,7 @@ pub walk-all : (mode : ℕ) (p : Phase) (ws room : List ℕ) → isNothing (walk
 unfolding walkOf
 walk-all mode p [] room e = refl
 walk-all mode p (w ∷ ws) room e =
-    let s = stepOf (length room) p w in
+    let s = stepOf mode (length room) p w in
     let r = stored (s .keeps) (collectedOf p) (valueOf mode w) room in
     let n = on-none (s .met) (s .phase) 1 r (walkOf mode (s .phase) ws r) e in
     ap (λ (x : Walk). x .answer .taken) (n .0) ∙ (let h = walk-all mode (s .phase) ws r (n .1) in omega arith)
@@ -44,7 +44,7 @@ record Front (mode : ℕ) (p : Phase) (x room : List ℕ) : Type 0 where
 front : (mode : ℕ) (p : Phase) (x room : List ℕ) → Front mode p x room
 unfolding walkPlaces
 front mode p x room =
-    let met = metAt (getD x 0 0) (length (drop 1 x)) in
+    let met = metAt mode x in
     record { met = met; left = placeRoom met (map (valueOf mode) (drop 1 x)) room; is = λ xs. refl }
 
 pub places-all : (mode : ℕ) (p : Phase) (size n : ℕ) (ws room : List ℕ) → n * size ≤ length ws → isNothing (walkPlaces mode p (placesIn size n ws) room .answer .met) ≡ true

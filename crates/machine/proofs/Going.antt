@@ -32,10 +32,10 @@ rest-lent i words = take-all (length words - i) (drop i words) (rw (length-drop 
 
 module _ (mode : ℕ) (words : List ℕ) (start : Walk) (room : List ℕ) (p : Phase) (i : ℕ) (g : Going mode words start room p i) where
   -- a run
-  pub going-run : (k : ℕ) (next : List ℕ) (q : Phase) → k ≡ takenBy p (length room) (drop i words) → next ≡ ranRoom mode p (drop i words) k room → q ≡ ranPhase p k
+  pub going-run : (k : ℕ) (next : List ℕ) (q : Phase) → k ≡ takenBy mode p (length room) (drop i words) → next ≡ ranRoom mode p (drop i words) k room → q ≡ ranPhase p k
       → Going mode words start next q (i + k)
   going-run k next q is put to =
-      let few : k ≤ length words - i = rw (sym (length-drop i words)) (rw is (taken-within p (length room) (drop i words))) in
+      let few : k ≤ length words - i = rw (sym (length-drop i words)) (rw is (taken-within mode p (length room) (drop i words))) in
       record {
         inside = omega (arith, few, g .inside);
         same =
@@ -53,7 +53,7 @@ module _ (mode : ℕ) (words : List ℕ) (start : Walk) (room : List ℕ) (p : P
       ∙ g .same
 
   -- a word
-  module _ (inside : i < length words) (s : Step) (is : s ≡ stepOf (length room) p (getD words i 0)) (next : List ℕ)
+  module _ (inside : i < length words) (s : Step) (is : s ≡ stepOf mode (length room) p (getD words i 0)) (next : List ℕ)
       (put : next ≡ stored (s .keeps) (collectedOf p) (valueOf mode (getD words i 0)) room) where
     pub going-word : isNothing (s .met) ≡ true → Going mode words start next (s .phase) (i + 1)
     going-word e =

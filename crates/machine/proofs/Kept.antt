@@ -7,7 +7,7 @@ use Prim.Native.Nat.{ℕ, zero, suc, _+_, _-_, _*_, _≤_, _<_}
 use native.Mathlib.Nat.{zero-mul, one-mul, suc-mul, mul-le-mul-right}
 use native.Mathlib.Omega.{arith}
 use lib.Dec.{T, eqb, leb, ltb}
-use lib.ListN.{length, getD, take, drop, length-append, length-drop, length-map, length-set}
+use lib.ListN.{length, take, drop, length-append, length-drop, length-map, length-set}
 use lib.Seq.{length-take-le}
 use borrow.Author.Tests.{le-ltb, leb-false, ltb-true, ltb-false}
 use Rattle.lists.specs.Tests.{pick}
@@ -15,14 +15,16 @@ use Rattle.lists.proofs.Tests.{true-false, or-false, false-or, and-none}
 use Rattle.words.specs.Modes.{valueOf}
 use Rattle.words.specs.Class.{classOf}
 use Rattle.words.specs.declared.class.Class.{Class}
-use Rattle.words.specs.declared.class.Class.the-variants.{Byte, Other, Separator, Ending, Illegal}
+use Rattle.words.specs.declared.class.Class.the-variants.{Byte, Other, Separator, Ending, Illegal, Null}
+use Rattle.machine.specs.declared.phase.Mark.{Mark}
+use Rattle.machine.specs.declared.phase.Mark.the-variants.{Typed, Nulled}
 use Rattle.machine.specs.declared.phase.Phase.{Phase}
 use Rattle.machine.specs.declared.phase.Phase.the-variants.{Idle, Kind, First, Second, Third, Fourth, Data}
 use Rattle.machine.specs.declared.step.Met.{Met}
 use Rattle.machine.specs.declared.step.Met.the-variants.{Nothing, Whole, Lost}
 use Rattle.machine.specs.declared.step.Step.{Step}
 use Rattle.machine.specs.Phases.{misphased}
-use Rattle.machine.specs.Machine.{on, dropped, idleStep, kindStep, countStep, counted, endStep, valueStep, dataStep, stepBy, stepOf}
+use Rattle.machine.specs.Machine.{on, dropped, idleStep, kindStep, countStep, counted, ended, endStep, valueStep, dataStep, stepBy, stepOf}
 use Rattle.machine.specs.Walk.{Walk, walkedTo, past, unless, isNothing, collectedOf, stored, walkOf}
 use Rattle.machine.specs.Places.{placesIn, metAt, placeRoom, walkPlaces}
 
@@ -42,6 +44,7 @@ idle-steady room Other = passes room Idle _ _ refl
 idle-steady room Separator = passes room Idle _ _ refl
 idle-steady room Ending = passes room Idle _ _ refl
 idle-steady room Illegal = passes room Idle _ _ refl
+idle-steady room Null = passes room Idle _ _ refl
 
 kind-steady : (room : ℕ) (c : Class) (b : ℕ) → Steady room Kind (kindStep c b)
 kind-steady room Byte b = passes room Kind _ _ refl
@@ -49,6 +52,7 @@ kind-steady room Other b = passes room Kind _ _ refl
 kind-steady room Separator b = passes room Kind _ _ refl
 kind-steady room Ending b = passes room Kind _ _ refl
 kind-steady room Illegal b = passes room Kind _ _ refl
+kind-steady room Null b = passes room Kind _ _ refl
 
 count-steady : (room : ℕ) (p : Phase) (c : Class) (next : Step) → Steady room p next → Steady room p (countStep c next)
 count-steady room p Byte next e = e
@@ -56,17 +60,19 @@ count-steady room p Other next e = passes room p _ _ refl
 count-steady room p Separator next e = passes room p _ _ refl
 count-steady room p Ending next e = passes room p _ _ refl
 count-steady room p Illegal next e = passes room p _ _ refl
+count-steady room p Null next e = passes room p _ _ refl
 
 -- a count that the room has space for, and nothing collected
-counted-by : (room : ℕ) (p : Phase) (k n : ℕ) (b : Bool) → ltb room n ≡ b → Steady room p (pick b (dropped 3) (on (Data k n 0)))
+counted-by : (room : ℕ) (p : Phase) (k : Mark) (n : ℕ) (b : Bool) → ltb room n ≡ b → Steady room p (pick b (dropped 3) (on (Data k n 0)))
 unfolding pick
 counted-by room p k n true e = passes room p _ _ refl
 counted-by room p k n false e =
     passes room p _ _ (false-or e (false-or (le-ltb room 0 (omega arith)) (and-none (not (eqb n 0)) (ltb n 0) (le-ltb n 0 (omega arith)))))
 
-end-by : (room : ℕ) (p : Phase) (k m : ℕ) (b : Bool) → Steady room p (pick b (record { phase = Idle; met = Whole k m; keeps = false }) (dropped 4))
+end-by : (room : ℕ) (p : Phase) (k : Mark) (m : ℕ) (b : Bool) → Steady room p (pick b (ended k m) (dropped 4))
 unfolding pick
-end-by room p k m true = passes room p _ _ refl
+end-by room p (Typed k) m true = passes room p _ _ refl
+end-by room p Nulled m true = passes room p _ _ refl
 end-by room p k m false = passes room p _ _ refl
 
 -- one value more: it was no value past a met count, nor past the room with no count
@@ -83,12 +89,13 @@ pub value-small : (room n m bound : ℕ) (z : Bool) → (not z && leb n m) ≡ f
 value-small room n m bound true x y low high = omega (arith, leb-false room m y)
 value-small room n m bound false x y low high = omega (arith, leb-false n m x)
 
-value-by : (room k n m : ℕ) (a b : Bool) → (not (eqb n 0) && leb n m) ≡ a → (eqb n 0 && leb room m) ≡ b
-    → Steady room (Data k n m) (pick a (dropped 5) (pick b (dropped 6) (record { phase = Data k n (m + 1); met = Nothing; keeps = ltb m room })))
+value-by : (room : ℕ) (k : Mark) (n m : ℕ) (a b v : Bool) → (not (eqb n 0) && leb n m) ≡ a → (eqb n 0 && leb room m) ≡ b
+    → Steady room (Data k n m) (pick a (dropped 5) (pick b (dropped 6) (pick v (dropped 7) (record { phase = Data k n (m + 1); met = Nothing; keeps = ltb m room }))))
 unfolding pick
-value-by room k n m true b x y = passes room (Data k n m) _ _ refl
-value-by room k n m false true x y = passes room (Data k n m) _ _ refl
-value-by room k n m false false x y =
+value-by room k n m true b v x y = passes room (Data k n m) _ _ refl
+value-by room k n m false true v x y = passes room (Data k n m) _ _ refl
+value-by room k n m false false true x y = passes room (Data k n m) _ _ refl
+value-by room k n m false false false x y =
     record {
       phased = λ e.
           let free = or-false (ltb room n) (ltb room m || (not (eqb n 0) && ltb n m)) e .0 in
@@ -97,27 +104,28 @@ value-by room k n m false false x y =
       inside = ltb-true m room;
     }
 
-data-steady : (room k n m : ℕ) (c : Class) → Steady room (Data k n m) (dataStep room k n m c)
+data-steady : (mode room : ℕ) (k : Mark) (n m : ℕ) (c : Class) → Steady room (Data k n m) (dataStep mode room k n m c)
 unfolding endStep valueStep
-data-steady room k n m Separator = passes room (Data k n m) _ _ refl
-data-steady room k n m Ending = end-by room (Data k n m) k m _
-data-steady room k n m Byte = value-by room k n m _ _ refl refl
-data-steady room k n m Other = value-by room k n m _ _ refl refl
-data-steady room k n m Illegal = value-by room k n m _ _ refl refl
+data-steady mode room k n m Separator = passes room (Data k n m) _ _ refl
+data-steady mode room k n m Ending = end-by room (Data k n m) k m _
+data-steady mode room k n m Byte = value-by room k n m _ _ false refl refl
+data-steady mode room k n m Other = value-by room k n m _ _ false refl refl
+data-steady mode room k n m Illegal = value-by room k n m _ _ false refl refl
+data-steady mode room k n m Null = value-by room k n m _ _ (eqb mode 8) refl refl
 
-by-class : (room : ℕ) (p : Phase) (c : Class) (b : ℕ) → Steady room p (stepBy room p c b)
+by-class : (mode room : ℕ) (p : Phase) (c : Class) (b : ℕ) → Steady room p (stepBy mode room p c b)
 unfolding counted
-by-class room Idle c b = idle-steady room c
-by-class room Kind c b = kind-steady room c b
-by-class room (First k) c b = count-steady room (First k) c _ (passes room (First k) _ _ refl)
-by-class room (Second k x) c b = count-steady room (Second k x) c _ (passes room (Second k x) _ _ refl)
-by-class room (Third k x y) c b = count-steady room (Third k x y) c _ (passes room (Third k x y) _ _ refl)
-by-class room (Fourth k x y z) c b = count-steady room (Fourth k x y z) c _ (counted-by room (Fourth k x y z) k _ _ refl)
-by-class room (Data k n m) c b = data-steady room k n m c
+by-class mode room Idle c b = idle-steady room c
+by-class mode room Kind c b = kind-steady room c b
+by-class mode room (First k) c b = count-steady room (First k) c _ (passes room (First k) _ _ refl)
+by-class mode room (Second k x) c b = count-steady room (Second k x) c _ (passes room (Second k x) _ _ refl)
+by-class mode room (Third k x y) c b = count-steady room (Third k x y) c _ (passes room (Third k x y) _ _ refl)
+by-class mode room (Fourth k x y z) c b = count-steady room (Fourth k x y z) c _ (counted-by room (Fourth k x y z) k _ _ refl)
+by-class mode room (Data k n m) c b = data-steady mode room k n m c
 
-pub step-steady : (room : ℕ) (p : Phase) (w : ℕ) → Steady room p (stepOf room p w)
+pub step-steady : (mode room : ℕ) (p : Phase) (w : ℕ) → Steady room p (stepOf mode room p w)
 unfolding stepOf
-step-steady room p w = by-class room p (classOf w) _
+step-steady mode room p w = by-class mode room p (classOf w) _
 
 -- ---- a walk
 -- what holds where it stops and where it goes on holds of it
@@ -141,19 +149,19 @@ pub walk-kept : (mode : ℕ) (p : Phase) (ws room : List ℕ) → Kept p room (l
 unfolding walkOf
 walk-kept mode p [] room = record { room-long = refl; at-most = omega arith; at-least = λ e. absurd (subst T e tt); phased = λ e. e }
 walk-kept mode p (w ∷ ws) room =
-    let s = stepOf (length room) p w in
+    let s = stepOf mode (length room) p w in
     let r = stored (s .keeps) (collectedOf p) (valueOf mode w) room in
     let same : length r ≡ length room = stored-long (s .keeps) (collectedOf p) (valueOf mode w) room in
     let x = walkOf mode (s .phase) ws r in
     let h = walk-kept mode (s .phase) ws r in
     either (s .met) (walkedTo (s .phase) (s .met) 1 r) (past 1 x) (Kept p room (suc (length ws)))
-    (record { room-long = same; at-most = omega arith; at-least = λ e. omega arith; phased = step-steady (length room) p w .phased })
+    (record { room-long = same; at-most = omega arith; at-least = λ e. omega arith; phased = step-steady mode (length room) p w .phased })
     (record {
       room-long = h .room-long ∙ same;
       at-most = omega (arith, h .at-most);
       at-least = λ e. omega arith;
       phased = λ e. subst (λ (k : ℕ). misphased k (x .answer .phase) ≡ false) same
-          (h .phased (subst (λ (k : ℕ). misphased k (s .phase) ≡ false) (sym same) (step-steady (length room) p w .phased e)));
+          (h .phased (subst (λ (k : ℕ). misphased k (s .phase) ≡ false) (sym same) (step-steady mode (length room) p w .phased e)));
     })
 
 -- ---- a walk over places
@@ -179,7 +187,7 @@ places-along mode p size (suc n) ws room h =
     let next = suc-mul n size in
     let x = take size ws in
     let long : length x ≡ size = length-take-le size ws (omega arith) in
-    let met = metAt (getD x 0 0) (length (drop 1 x)) in
+    let met = metAt mode x in
     let vs = map (valueOf mode) (drop 1 x) in
     let l : length vs ≡ size - 1 = length-map (drop 1 x) (valueOf mode) ∙ length-drop 1 x ∙ ap (λ (k : ℕ). k - 1) long in
     let o = walkPlaces mode p (placesIn size n (drop size ws)) room in

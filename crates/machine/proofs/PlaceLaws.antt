@@ -1,52 +1,107 @@
 -- Laws of the places of a fixed line: what a place reports, and the walk from one place to the next.
 -- Assumes nothing.
-use mathlib.Core.Path.{_≡_, refl, sym, ap, ap₂, _∙_}
-use mathlib.Core.Bool.{Bool, true, false, _||_}
+use mathlib.Core.Path.{_≡_, refl, sym, ap, ap₂, _∙_, subst}
+use mathlib.Core.Bool.{Bool, true, false, _&&_, _||_}
 use mathlib.Core.List.{List, [], _∷_, _++_, map}
 use Prim.Native.Nat.{ℕ, zero, suc, _+_, _-_, _/_, _%_, _≤_, _<_}
 use native.Mathlib.Nat.{add-zero, div-eq-sub-div, div-eq-of-lt}
 use native.Mathlib.Numerals.{add-one}
 use native.Mathlib.Omega.{arith}
-use lib.Dec.{eqb, ltb}
-use lib.ListN.{length, getD, take, drop, length-take, length-drop, length-map}
-use lib.Seq.{length-take-le, getD-take, getD-drop, drop-drop}
+use lib.Dec.{T, eqb, ltb}
+use lib.ListN.{length, getD, take, drop, length-take, length-drop, length-map, drop-of-length-le}
+use lib.Seq.{length-take-le, drop-drop}
 use borrow.Author.Tests.{ne-eqb, eqb-false, le-ltb, ltb-false}
 use Rattle.lists.specs.Tests.{pick}
+use Rattle.lists.proofs.Loops.{next-drop}
 use Rattle.lists.proofs.Tests.{pick-true, pick-false, or-false, false-or}
 use Rattle.words.specs.Modes.{valueOf}
 use Rattle.words.specs.Forms.{isByte, isData}
-use Rattle.words.specs.Class.{classOf, separator, endCode}
+use Rattle.words.specs.Class.{classOf, separator, endCode, nullWord, isNull}
 use Rattle.words.specs.declared.class.Class.{Class}
-use Rattle.words.specs.declared.class.Class.the-variants.{Byte, Other, Separator, Ending, Illegal}
+use Rattle.words.specs.declared.class.Class.the-variants.{Byte, Other, Separator, Ending, Illegal, Null}
 use Rattle.words.proofs.ClassLaws.{class-byte}
 use Rattle.machine.specs.declared.phase.Phase.{Phase}
 use Rattle.machine.specs.declared.step.Met.{Met}
 use Rattle.machine.specs.declared.step.Met.the-variants.{Nothing, Whole, Lost}
 use Rattle.machine.specs.Walk.{Walk, walkedTo, past, unless, isNothing}
-use Rattle.machine.specs.Places.{placesIn, placeMet, metAt, placeRoom, walkPlaces, walkFixed}
+use Rattle.machine.specs.Places.{placesIn, hasNull, placeMet, metAt, placeRoom, walkPlaces, walkFixed}
 use Rattle.machine.proofs.WalkLaws.{past-past, goes, stops}
 
 -- ---- what a place reports
-pub met-byte : (w n : ℕ) → isByte w ≡ true → metAt w n ≡ placeMet Byte (w % 256) n
-unfolding metAt
-met-byte w n b = ap (λ (c : Class). placeMet c (w % 256) n) (class-byte w b)
+-- the type word is 100h
+null-met : (void : Bool) (c : Class) (k n : ℕ) → isNull c ≡ true → placeMet void c k n ≡ Nothing
+null-met void Null k n e = refl
+null-met void Byte k n e = absurd (subst T (sym e) tt)
+null-met void Other k n e = absurd (subst T (sym e) tt)
+null-met void Separator k n e = absurd (subst T (sym e) tt)
+null-met void Ending k n e = absurd (subst T (sym e) tt)
+null-met void Illegal k n e = absurd (subst T (sym e) tt)
 
--- a type not in byte form, whatever else it is
-lost-by : (d s e : Bool) (k n : ℕ) → placeMet (pick d Other (pick s Separator (pick e Ending Illegal))) k n ≡ Lost 2
+-- another type not in byte form, whatever else it is
+lost-by : (void z d s e : Bool) (k n : ℕ) → isNull (pick z Null (pick d Other (pick s Separator (pick e Ending Illegal)))) ≡ false
+    → placeMet void (pick z Null (pick d Other (pick s Separator (pick e Ending Illegal)))) k n ≡ Lost 2
 unfolding pick
-lost-by true s e k n = refl
-lost-by false true e k n = refl
-lost-by false false true k n = refl
-lost-by false false false k n = refl
+lost-by void true d s e k n h = absurd (subst T h tt)
+lost-by void false true s e k n h = refl
+lost-by void false false true e k n h = refl
+lost-by void false false false true k n h = refl
+lost-by void false false false false k n h = refl
 
-pub met-formless : (w n : ℕ) → isByte w ≡ false → metAt w n ≡ Lost 2
-unfolding metAt classOf
-met-formless w n b =
-    ap (λ (c : Class). placeMet c (w % 256) n) (pick-false Byte _ b) ∙ lost-by (isData w) (eqb w separator) (eqb w endCode) (w % 256) n
+-- a type that is not 00h, with data that are values or not
+typed-met : (void : Bool) (k n : ℕ) → (k ≡ 0 → ⊥) → placeMet void Byte k n ≡ pick void (Lost 7) (Whole k n)
+typed-met void zero n h = absurd (h refl)
+typed-met void (suc k) n h = refl
 
-pub met-whole : (k n : ℕ) → (k ≡ 0 → ⊥) → placeMet Byte k n ≡ Whole k n
-met-whole zero n h = absurd (h refl)
-met-whole (suc k) n h = refl
+module _ (mode : ℕ) (x : List ℕ) where
+  abbrev pub is-void : Bool
+  is-void = eqb mode 8 && hasNull (drop 1 x)
+
+  pub met-null : isNull (classOf (getD x 0 0)) ≡ true → metAt mode x ≡ Nothing
+  unfolding metAt
+  met-null e = null-met is-void (classOf (getD x 0 0)) (getD x 0 0 % 256) (length (drop 1 x)) e
+
+  module _ (some : isNull (classOf (getD x 0 0)) ≡ false) where
+    pub met-formless : isByte (getD x 0 0) ≡ false → metAt mode x ≡ Lost 2
+    unfolding metAt classOf
+    met-formless b =
+        let w = getD x 0 0 in
+        let is = pick-false Byte (pick (eqb w nullWord) Null (pick (isData w) Other (pick (eqb w separator) Separator (pick (eqb w endCode) Ending Illegal)))) b in
+        ap (λ (c : Class). placeMet is-void c (w % 256) (length (drop 1 x))) is
+        ∙ lost-by is-void (eqb w nullWord) (isData w) (eqb w separator) (eqb w endCode) (w % 256) (length (drop 1 x)) (sym (ap isNull is) ∙ some)
+
+  module _ (byte : isByte (getD x 0 0) ≡ true) where
+    met-byte : metAt mode x ≡ placeMet is-void Byte (getD x 0 0 % 256) (length (drop 1 x))
+    unfolding metAt
+    met-byte = ap (λ (c : Class). placeMet is-void c (getD x 0 0 % 256) (length (drop 1 x))) (class-byte (getD x 0 0) byte)
+
+    pub met-empty : getD x 0 0 % 256 ≡ 0 → metAt mode x ≡ Nothing
+    met-empty e = met-byte ∙ ap (λ (k : ℕ). placeMet is-void Byte k (length (drop 1 x))) e
+
+    module _ (kind : getD x 0 0 % 256 ≡ 0 → ⊥) where
+      pub met-void : is-void ≡ true → metAt mode x ≡ Lost 7
+      met-void e = met-byte ∙ typed-met is-void (getD x 0 0 % 256) (length (drop 1 x)) kind ∙ pick-true _ _ e
+
+      pub met-whole : is-void ≡ false → metAt mode x ≡ Whole (getD x 0 0 % 256) (length x - 1)
+      met-whole e =
+          met-byte ∙ typed-met is-void (getD x 0 0 % 256) (length (drop 1 x)) kind ∙ pick-false _ _ e ∙ ap (Whole (getD x 0 0 % 256)) (length-drop 1 x)
+
+-- ---- 100h among words, found word by word
+pub null-next : (b : Bool) (ws : List ℕ) (i : ℕ) → i < length ws
+    → ((b || isNull (classOf (getD ws i 0))) || hasNull (drop (i + 1) ws)) ≡ (b || hasNull (drop i ws))
+unfolding hasNull
+null-next b ws i h = or-or b _ _ ∙ sym (ap (λ (l : List ℕ). b || hasNull l) (next-drop ws i h))
+  where
+    or-or : (a b c : Bool) → ((a || b) || c) ≡ (a || (b || c))
+    or-or true b c = refl
+    or-or false b c = refl
+
+pub null-out : (b : Bool) (ws : List ℕ) (i : ℕ) → length ws ≤ i → b ≡ (b || hasNull (drop i ws))
+unfolding hasNull
+null-out b ws i h = or-none b ∙ sym (ap (λ (l : List ℕ). b || hasNull l) (drop-of-length-le ws h))
+  where
+    or-none : (a : Bool) → a ≡ (a || false)
+    or-none true = refl
+    or-none false = refl
 
 -- the values of a block, laid into the first n words of the room
 pub room-whole : (met : Met) (k n : ℕ) (f : ℕ → ℕ) (ws room xs : List ℕ) → met ≡ Whole k n → xs ≡ map f ws → xs ++ drop (length ws) room ≡ placeRoom met (map f ws) room
@@ -73,18 +128,16 @@ module _ (mode : ℕ) (p : Phase) (size : ℕ) (one : 1 ≤ size) where
 
   first-place : (m : ℕ) (ws room : List ℕ) → size ≤ length ws
       → walkPlaces mode p (placesIn size (suc m) ws) room
-      ≡ at-place room (walkPlaces mode p (placesIn size m (drop size ws)) room) (metAt (getD ws 0 0) (size - 1)) size (take (size - 1) (drop 1 ws))
+      ≡ at-place room (walkPlaces mode p (placesIn size m (drop size ws)) room) (metAt mode (take size ws)) size (take (size - 1) (drop 1 ws))
   unfolding walkPlaces
   first-place m ws room h =
       let on = walkPlaces mode p (placesIn size m (drop size ws)) room in
       let x = take size ws in
       let long : length x ≡ size = length-take-le size ws h in
-      let rest : length (drop 1 x) ≡ size - 1 = length-drop 1 x ∙ ap (λ (k : ℕ). k - 1) long in
-      ap (λ (met : Met). at-place room on met (length x) (drop 1 x)) (ap₂ metAt (getD-take size ws 0 0 one) rest)
-      ∙ ap₂ (at-place room on (metAt (getD ws 0 0) (size - 1))) long (drop-take-one size ws one)
+      ap₂ (at-place room on (metAt mode x)) long (drop-take-one size ws one)
 
   -- the place in front reports something
-  pub front-stops : (ws room r : List ℕ) (met : Met) → size ≤ length ws → met ≡ metAt (getD ws 0 0) (size - 1) → isNothing met ≡ false
+  pub front-stops : (ws room r : List ℕ) (met : Met) → size ≤ length ws → met ≡ metAt mode (take size ws) → isNothing met ≡ false
       → r ≡ placeRoom met (map (valueOf mode) (take (size - 1) (drop 1 ws))) room → walkedTo p met size r ≡ walkPlaces mode p (placesIn size (length ws / size) ws) room
   front-stops ws room r met h is e laid =
       let n = (length ws - size) / size in
@@ -98,18 +151,19 @@ module _ (mode : ℕ) (p : Phase) (size : ℕ) (one : 1 ≤ size) where
       ∙ stops met _ _ e)
 
   -- the place at i, which reports met; m places are left with it, and n after it
-  module _ (m n i : ℕ) (ws room : List ℕ) (met : Met) (left : m ≡ suc n) (fits : i + size ≤ length ws) (is : met ≡ metAt (getD ws i 0) (size - 1)) (whole : Walk)
+  module _ (m n i : ℕ) (ws room : List ℕ) (met : Met) (left : m ≡ suc n) (fits : i + size ≤ length ws) (is : met ≡ metAt mode (take (i + size - i) (drop i ws))) (whole : Walk)
       (inv : past i (walkPlaces mode p (placesIn size m (drop i ws)) room) ≡ whole) where
     at-turn : walkPlaces mode p (placesIn size m (drop i ws)) room
         ≡ at-place room (walkPlaces mode p (placesIn size n (drop (i + size) ws)) room) met size (take (i + size - (i + 1)) (drop (i + 1) ws))
     at-turn =
         let long : size ≤ length (drop i ws) = rw (length-drop i ws) (omega arith) in
         let short : size - 1 ≡ i + size - (i + 1) = omega arith in
+        let part : size ≡ i + size - i = omega arith in
         let on : List ℕ → Walk = λ l. walkPlaces mode p (placesIn size n l) room in
         ap (λ (k : ℕ). walkPlaces mode p (placesIn size k (drop i ws)) room) left
         ∙ first-place n (drop i ws) room long
         ∙ ap₂ (λ (l : List ℕ) (x : Met). at-place room (on l) x size (take (size - 1) (drop 1 (drop i ws)))) (drop-drop size i ws)
-        (ap (λ (w : ℕ). metAt w (size - 1)) (getD-drop i ws 0 0 ∙ ap (λ (j : ℕ). getD ws j 0) (add-zero i)) ∙ sym is)
+        (ap (λ (k : ℕ). metAt mode (take k (drop i ws))) part ∙ sym is)
         ∙ ap₂ (λ (k : ℕ) (l : List ℕ). at-place room (on (drop (i + size) ws)) met size (take k l)) short (drop-drop 1 i ws)
 
     pub turn-stops : (r : List ℕ) → isNothing met ≡ false → r ≡ placeRoom met (map (valueOf mode) (take (i + size - (i + 1)) (drop (i + 1) ws))) room → walkedTo p met (i + size) r ≡ whole
@@ -160,3 +214,7 @@ front-fit size long ws h = rw (length-take (size - 1) (drop 1 ws)) (omega arith)
 
 pub values-fit : (size i long : ℕ) (ws : List ℕ) → size - 1 ≤ long → length (take (i + size - (i + 1)) (drop (i + 1) ws)) ≤ long
 values-fit size i long ws h = rw (length-take (i + size - (i + 1)) (drop (i + 1) ws)) (omega arith)
+
+-- a place that is lent has its type word
+pub place-some : (size i : ℕ) (ws : List ℕ) → 1 ≤ size → i + size ≤ length ws → 1 ≤ length (take (i + size - i) (drop i ws))
+place-some size i ws one fits = simp (length-take, length-drop) (omega arith)

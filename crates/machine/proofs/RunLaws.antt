@@ -1,54 +1,65 @@
 -- Laws of runs: a run taken at once is the same walk.
 -- Assumes nothing.
 use mathlib.Core.Path.{_≡_, refl, sym, ap, ap₂, _∙_, subst}
-use mathlib.Core.Bool.{Bool, true, false, _&&_, not}
+use mathlib.Core.Bool.{Bool, true, false, _&&_, _||_, not}
 use mathlib.Core.List.{List, [], _∷_, _++_, map}
 use Prim.Native.Nat.{ℕ, zero, suc, _+_, _-_, _≤_, _<_, min}
 use native.Mathlib.Nat.{add-zero, add-assoc}
 use native.Mathlib.Numerals.{add-one}
 use native.Mathlib.Omega.{arith}
-use lib.Dec.{T, eqb, leb}
+use lib.Dec.{T, eqb, leb, ltb}
 use lib.ListN.{length, getD, take, drop, set, length-set, length-take, length-drop, drop-of-length-le}
 use lib.Seq.{length-take-le, take-suc-set, drop-set-lt, append-snoc, paste, paste-zero}
 use borrow.Rule.Slice.PartMut.{putMid}
-use borrow.Author.Tests.{lt-leb, lt-ltb}
+use borrow.Author.Tests.{lt-leb, lt-ltb, ltb-true, ne-eqb}
 use Rattle.lists.specs.Tests.{pick}
-use Rattle.lists.proofs.Tests.{pick-true, pick-false, and-none}
+use Rattle.lists.proofs.Tests.{pick-true, pick-false, or-false, false-or, both-true, and-none}
 use Rattle.lists.proofs.Lists.{map-part}
 use Rattle.lists.proofs.Loops.{next-drop, mid-paste}
 use Rattle.words.specs.Modes.{valueOf}
-use Rattle.words.specs.Class.{classOf, isCode}
+use Rattle.words.specs.Class.{classOf, separator, endCode, nullWord, isCode, isNull}
+use Rattle.words.proofs.ClassLaws.{code-class, null-class}
 use Rattle.words.specs.declared.class.Class.{Class}
-use Rattle.words.specs.declared.class.Class.the-variants.{Byte, Other, Separator, Ending, Illegal}
+use Rattle.words.specs.declared.class.Class.the-variants.{Byte, Other, Separator, Ending, Illegal, Null}
+use Rattle.machine.specs.declared.phase.Mark.{Mark}
 use Rattle.machine.specs.declared.phase.Phase.{Phase}
 use Rattle.machine.specs.declared.phase.Phase.the-variants.{Idle, Kind, First, Second, Third, Fourth, Data}
 use Rattle.machine.specs.declared.step.Met.the-variants.{Nothing}
 use Rattle.machine.specs.declared.step.Step.{Step}
 use Rattle.machine.specs.Machine.{on, idleStep, valueStep, dataStep, stepOf}
 use Rattle.machine.specs.Walk.{Walk, past, stored, walkOf}
-use Rattle.machine.specs.Runs.{runOf, limitOf, takenBy, ranPhase, ranRoom}
+use Rattle.machine.specs.Runs.{stopsBy, runOf, limitOf, takenBy, ranPhase, ranRoom}
 use Rattle.machine.proofs.WalkLaws.{past-zero, past-past, word-goes}
 
 -- ---- where a run ends
-pub run-code : (w : ℕ) (ws : List ℕ) → isCode (classOf w) ≡ true → runOf (w ∷ ws) ≡ 0
-unfolding runOf
-run-code w ws e = pick-true _ _ e
+-- no run ends between 100h and 309h
+pub between-goes : (mode w : ℕ) → (ltb nullWord w && ltb w separator) ≡ true → stopsBy mode w ≡ false
+between-goes mode w e =
+    let b = both-true (ltb nullWord w) (ltb w separator) e in
+    let low = ltb-true nullWord w (b .0) in
+    let high = ltb-true w separator (b .1) in
+    false-or (sym (code-class w) ∙ false-or (ne-eqb w separator (λ z. omega (arith, z))) (ne-eqb w endCode (λ z. omega (arith, z))))
+    (and-none (eqb mode 8) (isNull (classOf w)) (sym (null-class w) ∙ ne-eqb w nullWord (λ z. omega (arith, z))))
 
-pub run-word : (w : ℕ) (ws : List ℕ) → isCode (classOf w) ≡ false → runOf (w ∷ ws) ≡ suc (runOf ws)
+pub run-code : (mode w : ℕ) (ws : List ℕ) → stopsBy mode w ≡ true → runOf mode (w ∷ ws) ≡ 0
 unfolding runOf
-run-word w ws e = pick-false _ _ e
+run-code mode w ws e = pick-true _ _ e
 
--- a run that has a word begins with one that is no code
-run-begins : (w : ℕ) (ws : List ℕ) (j : ℕ) → suc j ≤ runOf (w ∷ ws) → (isCode (classOf w) ≡ false) × (j ≤ runOf ws)
-run-begins w ws j = go (isCode (classOf w)) refl
+pub run-word : (mode w : ℕ) (ws : List ℕ) → stopsBy mode w ≡ false → runOf mode (w ∷ ws) ≡ suc (runOf mode ws)
+unfolding runOf
+run-word mode w ws e = pick-false _ _ e
+
+-- a run that has a word begins with one at which no run ends
+run-begins : (mode w : ℕ) (ws : List ℕ) (j : ℕ) → suc j ≤ runOf mode (w ∷ ws) → (stopsBy mode w ≡ false) × (j ≤ runOf mode ws)
+run-begins mode w ws j = go (stopsBy mode w) refl
   where
-    go : (b : Bool) → isCode (classOf w) ≡ b → suc j ≤ runOf (w ∷ ws) → (isCode (classOf w) ≡ false) × (j ≤ runOf ws)
-    go true e h = absurd (omega (arith, h, run-code w ws e))
-    go false e h = (e, omega (arith, h, run-word w ws e))
+    go : (b : Bool) → stopsBy mode w ≡ b → suc j ≤ runOf mode (w ∷ ws) → (stopsBy mode w ≡ false) × (j ≤ runOf mode ws)
+    go true e h = absurd (omega (arith, h, run-code mode w ws e))
+    go false e h = (e, omega (arith, h, run-word mode w ws e))
 
-run-none : (k : ℕ) → suc k ≤ runOf [] → ⊥
+run-none : (mode k : ℕ) → suc k ≤ runOf mode [] → ⊥
 unfolding runOf
-run-none k h = omega arith
+run-none mode k h = omega arith
 
 -- a part of the words has no longer a run than all of them, nor one longer than itself
 run-by : (b : Bool) (n i j : ℕ) → (i ≤ j) × (i ≤ n) → (pick b 0 (suc i) ≤ pick b 0 (suc j)) × (pick b 0 (suc i) ≤ suc n)
@@ -61,16 +72,16 @@ unfolding pick
 long-by true i n h = omega arith
 long-by false i n h = omega arith
 
-run-of-part : (n : ℕ) (ws : List ℕ) → (runOf (take n ws) ≤ runOf ws) × (runOf (take n ws) ≤ n)
+run-of-part : (mode n : ℕ) (ws : List ℕ) → (runOf mode (take n ws) ≤ runOf mode ws) × (runOf mode (take n ws) ≤ n)
 unfolding runOf
-run-of-part zero ws = (omega arith, omega arith)
-run-of-part (suc n) [] = (omega arith, omega arith)
-run-of-part (suc n) (w ∷ ws) = run-by (isCode (classOf w)) n (runOf (take n ws)) (runOf ws) (run-of-part n ws)
+run-of-part mode zero ws = (omega arith, omega arith)
+run-of-part mode (suc n) [] = (omega arith, omega arith)
+run-of-part mode (suc n) (w ∷ ws) = run-by (stopsBy mode w) n (runOf mode (take n ws)) (runOf mode ws) (run-of-part mode n ws)
 
-run-long : (ws : List ℕ) → runOf ws ≤ length ws
+run-long : (mode : ℕ) (ws : List ℕ) → runOf mode ws ≤ length ws
 unfolding runOf
-run-long [] = omega arith
-run-long (w ∷ ws) = long-by (isCode (classOf w)) (runOf ws) (length ws) (run-long ws)
+run-long mode [] = omega arith
+run-long mode (w ∷ ws) = long-by (stopsBy mode w) (runOf mode ws) (length ws) (run-long mode ws)
 
 -- ---- a word of a run
 idle-class : (c : Class) → isCode c ≡ false → idleStep c ≡ on Idle
@@ -79,20 +90,26 @@ idle-class Other e = refl
 idle-class Separator e = absurd (subst T e tt)
 idle-class Ending e = absurd (subst T e tt)
 idle-class Illegal e = refl
+idle-class Null e = refl
 
-idle-word : (room w : ℕ) → isCode (classOf w) ≡ false → stepOf room Idle w ≡ on Idle
+idle-word : (mode room w : ℕ) → stopsBy mode w ≡ false → stepOf mode room Idle w ≡ on Idle
 unfolding stepOf
-idle-word room w e = idle-class (classOf w) e
+idle-word mode room w e = idle-class (classOf w) (or-false (isCode (classOf w)) (eqb mode 8 && isNull (classOf w)) e .0)
 
-pub data-class : (room k n m : ℕ) (c : Class) → isCode c ≡ false → dataStep room k n m c ≡ valueStep room k n m
-data-class room k n m Byte e = refl
-data-class room k n m Other e = refl
-data-class room k n m Separator e = absurd (subst T e tt)
-data-class room k n m Ending e = absurd (subst T e tt)
-data-class room k n m Illegal e = refl
+pub data-class : (mode room : ℕ) (k : Mark) (n m : ℕ) (c : Class) → (isCode c || (eqb mode 8 && isNull c)) ≡ false → dataStep mode room k n m c ≡ valueStep false room k n m
+data-class mode room k n m Byte e = refl
+data-class mode room k n m Other e = refl
+data-class mode room k n m Separator e = absurd (subst T e tt)
+data-class mode room k n m Ending e = absurd (subst T e tt)
+data-class mode room k n m Illegal e = refl
+data-class mode room k n m Null e = ap (λ (b : Bool). valueStep b room k n m) (alone (eqb mode 8) e)
+  where
+    alone : (b : Bool) → (b && true) ≡ false → b ≡ false
+    alone true h = h
+    alone false h = refl
 
 -- the step of a value that is kept
-abbrev pub collecting : ℕ → ℕ → ℕ → Step
+abbrev pub collecting : Mark → ℕ → ℕ → Step
 collecting k n m = record { phase = Data k n (m + 1); met = Nothing; keeps = true }
 
 -- there is space for a word
@@ -105,18 +122,18 @@ has-space room n m = go (eqb n 0)
     go false h = (omega arith, lt-leb n m (omega arith))
 
 -- a value that is not past a met count, and for which there is room
-pub value-kept : (room k n m : ℕ) → (not (eqb n 0) && leb n m) ≡ false → m < room → valueStep room k n m ≡ collecting k n m
+pub value-kept : (room : ℕ) (k : Mark) (n m : ℕ) → (not (eqb n 0) && leb n m) ≡ false → m < room → valueStep false room k n m ≡ collecting k n m
 unfolding valueStep
 value-kept room k n m e h =
-    pick-false _ _ e ∙ pick-false _ _ (and-none (eqb n 0) (leb room m) (lt-leb room m h))
+    pick-false _ _ e ∙ pick-false _ _ (and-none (eqb n 0) (leb room m) (lt-leb room m h)) ∙ pick-false _ _ refl
     ∙ ap (λ (b : Bool). record { phase = Data k n (m + 1); met = Nothing; keeps = b }) (lt-ltb m room h)
 
-value-word : (room k n m : ℕ) → m < limitOf room n → valueStep room k n m ≡ collecting k n m
+value-word : (room : ℕ) (k : Mark) (n m : ℕ) → m < limitOf room n → valueStep false room k n m ≡ collecting k n m
 value-word room k n m h = let s = has-space room n m h in value-kept room k n m (s .1) (s .0)
 
-data-word : (room k n m w : ℕ) → isCode (classOf w) ≡ false → m < limitOf room n → stepOf room (Data k n m) w ≡ collecting k n m
+data-word : (mode room : ℕ) (k : Mark) (n m w : ℕ) → stopsBy mode w ≡ false → m < limitOf room n → stepOf mode room (Data k n m) w ≡ collecting k n m
 unfolding stepOf
-data-word room k n m w e h = data-class room k n m (classOf w) e ∙ value-word room k n m h
+data-word mode room k n m w e h = data-class mode room k n m (classOf w) e ∙ value-word room k n m h
 
 idle-stored : (v : ℕ) (room : List ℕ) → room ≡ stored false 0 v room
 unfolding stored pick
@@ -130,12 +147,12 @@ one-more : (j : ℕ) → 1 + j ≡ suc j
 one-more j = omega arith
 
 -- ---- j words of a run, idle
-idle-run : (mode j : ℕ) (ws room : List ℕ) → j ≤ runOf ws → walkOf mode Idle ws room ≡ past j (walkOf mode Idle (drop j ws) room)
+idle-run : (mode j : ℕ) (ws room : List ℕ) → j ≤ runOf mode ws → walkOf mode Idle ws room ≡ past j (walkOf mode Idle (drop j ws) room)
 idle-run mode zero ws room h = sym (past-zero (walkOf mode Idle ws room))
-idle-run mode (suc j) [] room h = absurd (run-none j h)
+idle-run mode (suc j) [] room h = absurd (run-none mode j h)
 idle-run mode (suc j) (w ∷ ws) room h =
-    let b = run-begins w ws j h in
-    word-goes mode Idle w ws room (on Idle) (sym (idle-word (length room) w (b .0))) room (idle-stored (valueOf mode w) room) refl
+    let b = run-begins mode w ws j h in
+    word-goes mode Idle w ws room (on Idle) (sym (idle-word mode (length room) w (b .0))) room (idle-stored (valueOf mode w) room) refl
     ∙ ap (past 1) (idle-run mode j ws room (b .1))
     ∙ past-past 1 j (walkOf mode Idle (drop j ws) room)
     ∙ ap (λ (n : ℕ). past n (walkOf mode Idle (drop j ws) room)) (one-more j)
@@ -150,18 +167,18 @@ paste-behind room vs m v j h =
     (drop-set-lt (m + 1 + j) room m v (omega arith) ∙ ap (λ (n : ℕ). drop n room) e)
     ∙ ap (λ (a : List ℕ). a ++ drop (m + suc j) room) (append-snoc (take m room) v (take j vs))
 
-data-run : (mode k n : ℕ) (j m : ℕ) (ws room : List ℕ) → j ≤ runOf ws → j ≤ limitOf (length room) n - m
+data-run : (mode : ℕ) (k : Mark) (n j m : ℕ) (ws room : List ℕ) → j ≤ runOf mode ws → j ≤ limitOf (length room) n - m
     → walkOf mode (Data k n m) ws room ≡ past j (walkOf mode (Data k n (m + j)) (drop j ws) (paste room m (map (valueOf mode) ws) j))
 data-run mode k n zero m ws room h s =
     ap₂ (λ (x : ℕ) (r : List ℕ). walkOf mode (Data k n x) ws r) (sym (add-zero m)) (paste-zero room m (map (valueOf mode) ws)) ∙ sym (past-zero _)
-data-run mode k n (suc j) m [] room h s = absurd (run-none j h)
+data-run mode k n (suc j) m [] room h s = absurd (run-none mode j h)
 data-run mode k n (suc j) m (w ∷ ws) room h s =
-    let b = run-begins w ws j h in
+    let b = run-begins mode w ws j h in
     let v = valueOf mode w in
     let more : m < limitOf (length room) n = omega arith in
     let long : length (set room m v) ≡ length room = length-set room m v in
     let left : j ≤ limitOf (length (set room m v)) n - (m + 1) = rw long (omega arith) in
-    word-goes mode (Data k n m) w ws room (collecting k n m) (sym (data-word (length room) k n m w (b .0) more)) (set room m v) (data-stored m v room) refl
+    word-goes mode (Data k n m) w ws room (collecting k n m) (sym (data-word mode (length room) k n m w (b .0) more)) (set room m v) (data-stored m v room) refl
     ∙ ap (past 1) (data-run mode k n j (m + 1) ws (set room m v) (b .1) left)
     ∙ past-past 1 j _
     ∙ ap₂ (λ (i : ℕ) (x : Walk). past i x) (one-more j)
@@ -171,7 +188,7 @@ data-run mode k n (suc j) m (w ∷ ws) room h s =
 none : (mode : ℕ) (p : Phase) (ws room : List ℕ) (k : ℕ) → k ≡ 0 → walkOf mode p ws room ≡ past k (walkOf mode p (drop k ws) room)
 none mode p ws room k e = rw e (sym (past-zero (walkOf mode p ws room)))
 
-pub run-taken : (mode : ℕ) (p : Phase) (ws room : List ℕ) (k : ℕ) → k ≡ takenBy p (length room) ws
+pub run-taken : (mode : ℕ) (p : Phase) (ws room : List ℕ) (k : ℕ) → k ≡ takenBy mode p (length room) ws
     → walkOf mode p ws room ≡ past k (walkOf mode (ranPhase p k) (drop k ws) (ranRoom mode p ws k room))
 run-taken mode Idle ws room k e = idle-run mode k ws room (omega (arith, e))
 run-taken mode Kind ws room k e = none mode Kind ws room k e
@@ -180,30 +197,30 @@ run-taken mode (Second t a) ws room k e = none mode (Second t a) ws room k e
 run-taken mode (Third t a b) ws room k e = none mode (Third t a b) ws room k e
 run-taken mode (Fourth t a b c) ws room k e = none mode (Fourth t a b c) ws room k e
 run-taken mode (Data t n m) ws room k e =
-    let x = run-of-part (min (length ws) (limitOf (length room) n - m)) ws in
+    let x = run-of-part mode (min (length ws) (limitOf (length room) n - m)) ws in
     data-run mode t n k m ws room (omega (arith, e, x .0)) (omega (arith, e, x .1))
 
 -- ---- the loop that finds a run's end
-pub run-next : (ws : List ℕ) (i : ℕ) → i < length ws → isCode (classOf (getD ws i 0)) ≡ false → i + 1 + runOf (drop (i + 1) ws) ≡ i + runOf (drop i ws)
-run-next ws i h e = let r = ap runOf (next-drop ws i h) ∙ run-word (getD ws i 0) (drop (i + 1) ws) e in omega (arith, r)
+pub run-next : (mode : ℕ) (ws : List ℕ) (i : ℕ) → i < length ws → stopsBy mode (getD ws i 0) ≡ false → i + 1 + runOf mode (drop (i + 1) ws) ≡ i + runOf mode (drop i ws)
+run-next mode ws i h e = let r = ap (runOf mode) (next-drop ws i h) ∙ run-word mode (getD ws i 0) (drop (i + 1) ws) e in omega (arith, r)
 
-pub run-found : (ws : List ℕ) (i : ℕ) → i < length ws → isCode (classOf (getD ws i 0)) ≡ true → i ≡ i + runOf (drop i ws)
-run-found ws i h e = let r = ap runOf (next-drop ws i h) ∙ run-code (getD ws i 0) (drop (i + 1) ws) e in omega (arith, r)
+pub run-found : (mode : ℕ) (ws : List ℕ) (i : ℕ) → i < length ws → stopsBy mode (getD ws i 0) ≡ true → i ≡ i + runOf mode (drop i ws)
+run-found mode ws i h e = let r = ap (runOf mode) (next-drop ws i h) ∙ run-code mode (getD ws i 0) (drop (i + 1) ws) e in omega (arith, r)
 
-pub run-out : (ws : List ℕ) (i : ℕ) → length ws ≤ i → i ≡ i + runOf (drop i ws)
+pub run-out : (mode : ℕ) (ws : List ℕ) (i : ℕ) → length ws ≤ i → i ≡ i + runOf mode (drop i ws)
 unfolding runOf
-run-out ws i h = let r = ap runOf (drop-of-length-le ws h) in omega (arith, r)
+run-out mode ws i h = let r = ap (runOf mode) (drop-of-length-le ws h) in omega (arith, r)
 
 -- ---- sizes
 -- what a phase takes are words that there are, and they fit into the room behind those collected
-pub taken-within : (p : Phase) (room : ℕ) (ws : List ℕ) → takenBy p room ws ≤ length ws
-taken-within Idle room ws = run-long ws
-taken-within Kind room ws = omega arith
-taken-within (First t) room ws = omega arith
-taken-within (Second t a) room ws = omega arith
-taken-within (Third t a b) room ws = omega arith
-taken-within (Fourth t a b c) room ws = omega arith
-taken-within (Data t n m) room ws = let x = run-of-part (min (length ws) (limitOf room n - m)) ws in omega (arith, x .1)
+pub taken-within : (mode : ℕ) (p : Phase) (room : ℕ) (ws : List ℕ) → takenBy mode p room ws ≤ length ws
+taken-within mode Idle room ws = run-long mode ws
+taken-within mode Kind room ws = omega arith
+taken-within mode (First t) room ws = omega arith
+taken-within mode (Second t a) room ws = omega arith
+taken-within mode (Third t a b) room ws = omega arith
+taken-within mode (Fourth t a b c) room ws = omega arith
+taken-within mode (Data t n m) room ws = let x = run-of-part mode (min (length ws) (limitOf room n - m)) ws in omega (arith, x .1)
 
 end-in-room : (room n : ℕ) → limitOf room n ≤ room
 unfolding limitOf pick
@@ -213,15 +230,15 @@ end-in-room room n = go (eqb n 0)
     go true = omega arith
     go false = omega arith
 
-pub data-fits : (t n m room : ℕ) (ws : List ℕ) (k : ℕ) → k ≡ takenBy (Data t n m) room ws → (k ≡ 0 → ⊥) → m + k ≤ room
-data-fits t n m room ws k e some =
-    let x = run-of-part (min (length ws) (limitOf room n - m)) ws in
+pub data-fits : (mode : ℕ) (t : Mark) (n m room : ℕ) (ws : List ℕ) (k : ℕ) → k ≡ takenBy mode (Data t n m) room ws → (k ≡ 0 → ⊥) → m + k ≤ room
+data-fits mode t n m room ws k e some =
+    let x = run-of-part mode (min (length ws) (limitOf room n - m)) ws in
     omega (arith, e, some, x .1, end-in-room room n)
 
 -- and the number collected stays below any bound of the room
-pub data-small : (t n m room : ℕ) (ws : List ℕ) (k bound : ℕ) → k ≡ takenBy (Data t n m) room ws → m < bound → room < bound → m + k < bound
-data-small t n m room ws k bound e low high =
-    let x = run-of-part (min (length ws) (limitOf room n - m)) ws in
+pub data-small : (mode : ℕ) (t : Mark) (n m room : ℕ) (ws : List ℕ) (k bound : ℕ) → k ≡ takenBy mode (Data t n m) room ws → m < bound → room < bound → m + k < bound
+data-small mode t n m room ws k bound e low high =
+    let x = run-of-part mode (min (length ws) (limitOf room n - m)) ws in
     omega (arith, e, x .1, end-in-room room n)
 
 -- ---- parts lent for a run

@@ -33,15 +33,15 @@ stops Nothing stop on e = absurd (subst T e tt)
 stops (Whole k n) stop on e = refl
 stops (Lost n) stop on e = refl
 
-module _ (mode : ℕ) (p : Phase) (w : ℕ) (ws room : List ℕ) (s : Step) (is : s ≡ stepOf (length room) p w)
+module _ (mode : ℕ) (p : Phase) (w : ℕ) (ws room : List ℕ) (s : Step) (is : s ≡ stepOf mode (length room) p w)
     (next : List ℕ) (put : next ≡ stored (s .keeps) (collectedOf p) (valueOf mode w) room) where
   pub word-goes : isNothing (s .met) ≡ true → walkOf mode p (w ∷ ws) room ≡ past 1 (walkOf mode (s .phase) ws next)
   unfolding walkOf
-  word-goes e = rw (put, is) (goes (stepOf (length room) p w .met) _ _ (rw is at e))
+  word-goes e = rw (put, is) (goes (stepOf mode (length room) p w .met) _ _ (rw is at e))
 
   pub word-stops : isNothing (s .met) ≡ false → walkOf mode p (w ∷ ws) room ≡ walkedTo (s .phase) (s .met) 1 next
   unfolding walkOf
-  word-stops e = rw (put, is) (stops (stepOf (length room) p w .met) _ _ (rw is at e))
+  word-stops e = rw (put, is) (stops (stepOf mode (length room) p w .met) _ _ (rw is at e))
 
 -- ---- walking two parts one after the other is walking both joined
 past-unless : (n : ℕ) (met : Met) (stop on : Walk) → past n (unless met stop on) ≡ unless met (past n stop) (past n on)
@@ -68,6 +68,6 @@ pub walk-append : (mode : ℕ) (p : Phase) (xs ys room : List ℕ) → walkOf mo
 unfolding walkOf
 walk-append mode p [] ys room = sym (past-zero (walkOf mode p ys room))
 walk-append mode p (w ∷ xs) ys room =
-    let s = stepOf (length room) p w in
+    let s = stepOf mode (length room) p w in
     let r = stored (s .keeps) (collectedOf p) (valueOf mode w) room in
     join-by (λ q l. walkOf mode q ys l) 1 (s .phase) (s .met) r (walkOf mode (s .phase) xs r) _ (walk-append mode (s .phase) xs ys r)

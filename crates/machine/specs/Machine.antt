@@ -2,12 +2,14 @@
 -- It knows no line and no settings; the room's length is its capacity.
 -- Assumes nothing.
 use Prim.Native.Nat.{ℕ, _+_, _*_, _%_}
-use mathlib.Core.Bool.{true, false, _&&_, _||_, not}
+use mathlib.Core.Bool.{Bool, true, false, _&&_, _||_, not}
 use lib.Dec.{eqb, leb, ltb}
 use Rattle.lists.specs.Tests.{pick}
 use Rattle.words.specs.Class.{classOf}
 use Rattle.words.specs.declared.class.Class.{Class}
-use Rattle.words.specs.declared.class.Class.the-variants.{Byte, Other, Separator, Ending, Illegal}
+use Rattle.words.specs.declared.class.Class.the-variants.{Byte, Other, Separator, Ending, Illegal, Null}
+use Rattle.machine.specs.declared.phase.Mark.{Mark}
+use Rattle.machine.specs.declared.phase.Mark.the-variants.{Typed, Nulled}
 use Rattle.machine.specs.declared.phase.Phase.{Phase}
 use Rattle.machine.specs.declared.phase.Phase.the-variants.{Idle, Kind, First, Second, Third, Fourth, Data}
 use Rattle.machine.specs.declared.step.Met.the-variants.{Nothing, Whole, Lost}
@@ -31,12 +33,14 @@ idleStep Byte = on Idle
 idleStep Other = on Idle
 idleStep Ending = on Idle
 idleStep Illegal = on Idle
+idleStep Null = on Idle
 
--- Type: 30Ah is drop 4; a word not in byte form is drop 2.
+-- Type: 30Ah is drop 4; 100h marks a null; any other word not in byte form is drop 2.
 abbrev pub kindStep : Class → ℕ → Step
 kindStep Separator b = again
 kindStep Ending b = dropped 4
-kindStep Byte b = on (First b)
+kindStep Byte b = on (First (Typed b))
+kindStep Null b = on (First Nulled)
 kindStep Other b = dropped 2
 kindStep Illegal b = dropped 2
 
@@ -47,38 +51,47 @@ countStep Ending next = dropped 4
 countStep Byte next = next
 countStep Other next = dropped 3
 countStep Illegal next = dropped 3
+countStep Null next = dropped 3
 
 -- the count is whole: above the room's length it is drop 3
-unfoldable pub counted : ℕ → ℕ → ℕ → Step
+unfoldable pub counted : ℕ → Mark → ℕ → Step
 counted room k n = pick (ltb room n) (dropped 3) (on (Data k n 0))
 
--- Data: 30Ah hands out the block if the count is 0 or met, else drop 4.
-unfoldable pub endStep : ℕ → ℕ → ℕ → Step
-endStep k n m = pick (eqb n 0 || eqb n m) (record { phase = Idle; met = Whole k m; keeps = false }) (dropped 4)
+-- A block that ends properly is handed out; a null is not, and the machine goes on.
+abbrev pub ended : Mark → ℕ → Step
+ended (Typed k) m = record { phase = Idle; met = Whole k m; keeps = false }
+ended Nulled m = on Idle
 
--- A data word past a met count is drop 5; one past the room with no count is drop 6; else its value goes into the room. A stated count
--- above the room is drop 3 before; where a caller of the machine lends such a phase, a value beyond the room's end goes nowhere.
-unfoldable pub valueStep : ℕ → ℕ → ℕ → ℕ → Step
-valueStep room k n m =
+-- Data: 30Ah ends the block if the count is 0 or met, else drop 4.
+unfoldable pub endStep : Mark → ℕ → ℕ → Step
+endStep k n m = pick (eqb n 0 || eqb n m) (ended k m) (dropped 4)
+
+-- A data word past a met count is drop 5; one past the room with no count is drop 6; one that is no value, `void`, is drop 7; else its
+-- value goes into the room. A stated count above the room is drop 3 before; where a caller of the machine lends such a phase, a value
+-- beyond the room's end goes nowhere.
+unfoldable pub valueStep : Bool → ℕ → Mark → ℕ → ℕ → Step
+valueStep void room k n m =
     pick (not (eqb n 0) && leb n m) (dropped 5)
-    (pick (eqb n 0 && leb room m) (dropped 6) (record { phase = Data k n (m + 1); met = Nothing; keeps = ltb m room }))
+    (pick (eqb n 0 && leb room m) (dropped 6) (pick void (dropped 7) (record { phase = Data k n (m + 1); met = Nothing; keeps = ltb m room })))
 
-abbrev pub dataStep : ℕ → ℕ → ℕ → ℕ → Class → Step
-dataStep room k n m Separator = again
-dataStep room k n m Ending = endStep k n m
-dataStep room k n m Byte = valueStep room k n m
-dataStep room k n m Other = valueStep room k n m
-dataStep room k n m Illegal = valueStep room k n m
+-- 100h is no value in 8-bit mode
+abbrev pub dataStep : ℕ → ℕ → Mark → ℕ → ℕ → Class → Step
+dataStep mode room k n m Separator = again
+dataStep mode room k n m Ending = endStep k n m
+dataStep mode room k n m Byte = valueStep false room k n m
+dataStep mode room k n m Other = valueStep false room k n m
+dataStep mode room k n m Illegal = valueStep false room k n m
+dataStep mode room k n m Null = valueStep (eqb mode 8) room k n m
 
--- one word w, in a room of that length; a byte-form word's byte is its low eight bits
-abbrev pub stepBy : ℕ → Phase → Class → ℕ → Step
-stepBy room Idle c b = idleStep c
-stepBy room Kind c b = kindStep c b
-stepBy room (First k) c b = countStep c (on (Second k b))
-stepBy room (Second k x) c b = countStep c (on (Third k x b))
-stepBy room (Third k x y) c b = countStep c (on (Fourth k x y b))
-stepBy room (Fourth k x y z) c b = countStep c (counted room k (x + y * 256 + z * 65536 + b * 16777216))
-stepBy room (Data k n m) c b = dataStep room k n m c
+-- one word w, in that mode and a room of that length; a byte-form word's byte is its low eight bits
+abbrev pub stepBy : ℕ → ℕ → Phase → Class → ℕ → Step
+stepBy mode room Idle c b = idleStep c
+stepBy mode room Kind c b = kindStep c b
+stepBy mode room (First k) c b = countStep c (on (Second k b))
+stepBy mode room (Second k x) c b = countStep c (on (Third k x b))
+stepBy mode room (Third k x y) c b = countStep c (on (Fourth k x y b))
+stepBy mode room (Fourth k x y z) c b = countStep c (counted room k (x + y * 256 + z * 65536 + b * 16777216))
+stepBy mode room (Data k n m) c b = dataStep mode room k n m c
 
-unfoldable pub stepOf : ℕ → Phase → ℕ → Step
-stepOf room p w = stepBy room p (classOf w) (w % 256)
+unfoldable pub stepOf : ℕ → ℕ → Phase → ℕ → Step
+stepOf mode room p w = stepBy mode room p (classOf w) (w % 256)

@@ -4,20 +4,27 @@ use Prim.Native.Nat.{ℕ}
 use mathlib.Core.Bool.{Bool, true, false, _&&_, _||_, not}
 use mathlib.Core.List.{List, [], _∷_}
 use lib.Dec.{eqb, ltb}
+use Rattle.machine.specs.declared.phase.Mark.the-variants.{Typed, Nulled}
 use Rattle.machine.specs.declared.phase.Phase.{Phase}
 use Rattle.machine.specs.declared.phase.Phase.the-variants.{Idle, Kind, First, Second, Third, Fourth, Data}
 use Rattle.machine.specs.declared.step.Met.{Met}
 use Rattle.machine.specs.declared.step.Met.the-variants.{Nothing, Whole, Lost}
 
--- idle, 0; type awaited, 1; count awaited with type and bytes so far, 2; data with type, count announced and number collected, 3
+-- idle, 0; type awaited, 1; count awaited with type and bytes so far, 2; data with type, count announced and number collected, 3; the
+-- same two of a null, which has no type, 4 and 5
 abbrev pub phaseNumbers : Phase → List ℕ
 phaseNumbers Idle = 0 ∷ []
 phaseNumbers Kind = 1 ∷ []
-phaseNumbers (First k) = 2 ∷ k ∷ []
-phaseNumbers (Second k a) = 2 ∷ k ∷ a ∷ []
-phaseNumbers (Third k a b) = 2 ∷ k ∷ a ∷ b ∷ []
-phaseNumbers (Fourth k a b c) = 2 ∷ k ∷ a ∷ b ∷ c ∷ []
-phaseNumbers (Data k n m) = 3 ∷ k ∷ n ∷ m ∷ []
+phaseNumbers (First (Typed k)) = 2 ∷ k ∷ []
+phaseNumbers (Second (Typed k) a) = 2 ∷ k ∷ a ∷ []
+phaseNumbers (Third (Typed k) a b) = 2 ∷ k ∷ a ∷ b ∷ []
+phaseNumbers (Fourth (Typed k) a b c) = 2 ∷ k ∷ a ∷ b ∷ c ∷ []
+phaseNumbers (Data (Typed k) n m) = 3 ∷ k ∷ n ∷ m ∷ []
+phaseNumbers (First Nulled) = 4 ∷ []
+phaseNumbers (Second Nulled a) = 4 ∷ a ∷ []
+phaseNumbers (Third Nulled a b) = 4 ∷ a ∷ b ∷ []
+phaseNumbers (Fourth Nulled a b c) = 4 ∷ a ∷ b ∷ c ∷ []
+phaseNumbers (Data Nulled n m) = 5 ∷ n ∷ m ∷ []
 
 -- an open phase: every phase but idle
 abbrev pub isBusy : Phase → Bool

@@ -1,34 +1,39 @@
 -- Runs of words that a phase takes with no report. Only the promises of private functions cite this.
 -- Assumes nothing.
 use Prim.Native.Nat.{ℕ, suc, _+_, _-_, min}
+use mathlib.Core.Bool.{Bool, _&&_, _||_}
 use mathlib.Core.List.{List, [], _∷_, map}
 use lib.Dec.{eqb}
 use lib.ListN.{length, take}
 use lib.Seq.{paste}
 use Rattle.lists.specs.Tests.{pick}
 use Rattle.words.specs.Modes.{valueOf}
-use Rattle.words.specs.Class.{classOf, isCode}
+use Rattle.words.specs.Class.{classOf, isCode, isNull}
 use Rattle.machine.specs.declared.phase.Phase.{Phase}
 use Rattle.machine.specs.declared.phase.Phase.the-variants.{Idle, Kind, First, Second, Third, Fourth, Data}
 
--- how many words stand before the first 309h or 30Ah
-unfoldable pub runOf : List ℕ → ℕ
-runOf [] = 0
-runOf (w ∷ ws) = let on = runOf ws in pick (isCode (classOf w)) 0 (suc on)
+-- a run ends at 309h and 30Ah, and in 8-bit mode at 100h
+abbrev pub stopsBy : ℕ → ℕ → Bool
+stopsBy mode w = isCode (classOf w) || (eqb mode 8 && isNull (classOf w))
+
+-- how many words stand before the first such word
+unfoldable pub runOf : ℕ → List ℕ → ℕ
+runOf mode [] = 0
+runOf mode (w ∷ ws) = let on = runOf mode ws in pick (stopsBy mode w) 0 (suc on)
 
 -- how many data words a block may have: up to the count, if it is stated, and to the room's end
 unfoldable pub limitOf : ℕ → ℕ → ℕ
 limitOf room n = pick (eqb n 0) room (min n room)
 
 -- how many words a phase takes at once: idle passes over a run, data takes as much of one as there is space for
-abbrev pub takenBy : Phase → ℕ → List ℕ → ℕ
-takenBy Idle room ws = runOf ws
-takenBy Kind room ws = 0
-takenBy (First k) room ws = 0
-takenBy (Second k a) room ws = 0
-takenBy (Third k a b) room ws = 0
-takenBy (Fourth k a b c) room ws = 0
-takenBy (Data k n m) room ws = runOf (take (min (length ws) (limitOf room n - m)) ws)
+abbrev pub takenBy : ℕ → Phase → ℕ → List ℕ → ℕ
+takenBy mode Idle room ws = runOf mode ws
+takenBy mode Kind room ws = 0
+takenBy mode (First k) room ws = 0
+takenBy mode (Second k a) room ws = 0
+takenBy mode (Third k a b) room ws = 0
+takenBy mode (Fourth k a b c) room ws = 0
+takenBy mode (Data k n m) room ws = runOf mode (take (min (length ws) (limitOf room n - m)) ws)
 
 -- the phase and the room after k words of a run
 abbrev pub ranPhase : Phase → ℕ → Phase

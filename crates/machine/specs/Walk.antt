@@ -56,7 +56,7 @@ stored keeps m v room = pick keeps (set room m v) room
 unfoldable pub walkOf : ℕ → Phase → List ℕ → List ℕ → Walk
 walkOf mode p [] room = walkedTo p Nothing 0 room
 walkOf mode p (w ∷ ws) room =
-    let s = stepOf (length room) p w in
+    let s = stepOf mode (length room) p w in
     let r = stored (s .keeps) (collectedOf p) (valueOf mode w) room in
     let on = walkOf mode (s .phase) ws r in
     unless (s .met) (walkedTo (s .phase) (s .met) 1 r) (past 1 on)

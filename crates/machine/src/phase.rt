@@ -3,31 +3,37 @@ ghost use mathlib.Core.Path.{_≡_};
 ghost use Rattle.machine.specs.Phases.{isBusy, misphased};
 ghost use Rattle.machine.specs.Walk.{collectedOf};
 
-// Where a block stands: idle; type awaited; the first, second, third or fourth count byte awaited, with the type and the bytes
-// so far; data, with the count announced (0: not stated) and the number collected, the type still held.
+// What the type word said: a type; or, by 100h, that this is a null, which is walked like a block and not handed out.
+pub enum Mark {
+    Typed(u8),
+    Nulled,
+}
+
+// Where a block stands: idle; type awaited; the first, second, third or fourth count byte awaited, with the mark and the bytes
+// so far; data, with the count announced (0: not stated) and the number collected, the mark still held.
 pub enum Phase {
     Idle,
     Kind,
     First {
-        kind: u8,
+        mark: Mark,
     },
     Second {
-        kind: u8,
+        mark: Mark,
         b0: u8,
     },
     Third {
-        kind: u8,
+        mark: Mark,
         b0: u8,
         b1: u8,
     },
     Fourth {
-        kind: u8,
+        mark: Mark,
         b0: u8,
         b1: u8,
         b2: u8,
     },
     Data {
-        kind: u8,
+        mark: Mark,
         announced: usize,
         collected: usize,
     },
@@ -40,21 +46,21 @@ pub fn is_busy(phase: Phase) -> bool
     match phase {
         Phase::Idle => false,
         Phase::Kind => true,
-        Phase::First { kind: _ } => true,
-        Phase::Second { kind: _, b0: _ } => true,
+        Phase::First { mark: _ } => true,
+        Phase::Second { mark: _, b0: _ } => true,
         Phase::Third {
-            kind: _,
+            mark: _,
             b0: _,
             b1: _,
         } => true,
         Phase::Fourth {
-            kind: _,
+            mark: _,
             b0: _,
             b1: _,
             b2: _,
         } => true,
         Phase::Data {
-            kind: _,
+            mark: _,
             announced: _,
             collected: _,
         } => true,
@@ -68,21 +74,21 @@ pub fn is_misphased(room: usize, phase: Phase) -> bool
     match phase {
         Phase::Idle => false,
         Phase::Kind => false,
-        Phase::First { kind: _ } => false,
-        Phase::Second { kind: _, b0: _ } => false,
+        Phase::First { mark: _ } => false,
+        Phase::Second { mark: _, b0: _ } => false,
         Phase::Third {
-            kind: _,
+            mark: _,
             b0: _,
             b1: _,
         } => false,
         Phase::Fourth {
-            kind: _,
+            mark: _,
             b0: _,
             b1: _,
             b2: _,
         } => false,
         Phase::Data {
-            kind: _,
+            mark: _,
             announced: n,
             collected: m,
         } => (room < n) | ((room < m) | ((n != 0) & (n < m))),
@@ -96,21 +102,21 @@ pub(crate) fn collected_of(phase: Phase) -> usize
     match phase {
         Phase::Idle => 0,
         Phase::Kind => 0,
-        Phase::First { kind: _ } => 0,
-        Phase::Second { kind: _, b0: _ } => 0,
+        Phase::First { mark: _ } => 0,
+        Phase::Second { mark: _, b0: _ } => 0,
         Phase::Third {
-            kind: _,
+            mark: _,
             b0: _,
             b1: _,
         } => 0,
         Phase::Fourth {
-            kind: _,
+            mark: _,
             b0: _,
             b1: _,
             b2: _,
         } => 0,
         Phase::Data {
-            kind: _,
+            mark: _,
             announced: _,
             collected,
         } => collected,

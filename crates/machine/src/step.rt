@@ -1,5 +1,6 @@
 // The word machine: what one word of a variable area does, by the phase and the class of the word. The order in every open
-// phase is 309h, 30Ah, the form, the size. It knows no line and no settings; the room's length is its capacity.
+// phase is 309h, 30Ah, the form, the size, and 100h as data. It knows no line and no settings; the room's length is its capacity.
+use crate::phase::Mark;
 use crate::phase::Phase;
 use words::class;
 use words::class::Class;
@@ -8,7 +9,7 @@ ghost use Prim.Native.Nat.{_+_, _*_, _%_};
 ghost use Rattle.words.specs.Class.{classNumberOf};
 ghost use Rattle.machine.specs.Phases.{phaseNumbers, metNumbers};
 ghost use Rattle.machine.specs.StepNumbers.{metBy, phaseBy};
-ghost use Rattle.machine.specs.Machine.{on, dropped, again, idleStep, kindStep, countStep, counted, endStep, valueStep, dataStep, stepBy, stepOf};
+ghost use Rattle.machine.specs.Machine.{on, dropped, again, idleStep, kindStep, countStep, counted, ended, endStep, valueStep, dataStep, stepBy, stepOf};
 
 // What a word reports: nothing; a whole block, with type and length; or a drop, with its number.
 pub enum Met {
@@ -64,6 +65,7 @@ fn idle_step(c: Class) -> Step
         Class::Other => go_on(Phase::Idle),
         Class::Ending => go_on(Phase::Idle),
         Class::Illegal => go_on(Phase::Idle),
+        Class::Null => go_on(Phase::Idle),
     }
 }
 
@@ -73,9 +75,12 @@ fn kind_step(c: Class, b: u8) -> Step
     match c {
         Class::Separator => start_again(),
         Class::Ending => lose(4),
-        Class::Byte => go_on(Phase::First { kind: b }),
+        Class::Byte => go_on(Phase::First {
+            mark: Mark::Typed(b),
+        }),
         Class::Other => lose(2),
         Class::Illegal => lose(2),
+        Class::Null => go_on(Phase::First { mark: Mark::Nulled }),
     }
 }
 
@@ -89,43 +94,54 @@ fn count_step(c: Class, next: Step) -> Step
         Class::Byte => next,
         Class::Other => lose(3),
         Class::Illegal => lose(3),
+        Class::Null => lose(3),
     }
 }
 
 // The count is whole.
-fn count_whole(room: usize, kind: u8, n: usize) -> Step
-    ensures { λ r. ⌜ r ≡ counted room kind n ⌝ }
+fn count_whole(room: usize, mark: Mark, n: usize) -> Step
+    ensures { λ r. ⌜ r ≡ counted room mark n ⌝ }
 {
     if room < n {
         return lose(3);
     }
     go_on(Phase::Data {
-        kind: kind,
+        mark: mark,
         announced: n,
         collected: 0,
     })
 }
 
-fn end_step(kind: u8, n: usize, m: usize) -> Step
-    ensures { λ r. ⌜ r ≡ endStep kind n m ⌝ }
+// A block that ended properly is handed out; a null is not.
+fn hand_out(mark: Mark, m: usize) -> Step
+    ensures { λ r. ⌜ r ≡ ended mark m ⌝ }
 {
-    if (n == 0) | (n == m) {
-        return Step {
+    match mark {
+        Mark::Typed(kind) => Step {
             phase: Phase::Idle,
             met: Met::Whole {
                 kind: kind,
                 length: m,
             },
             keeps: false,
-        };
+        },
+        Mark::Nulled => go_on(Phase::Idle),
+    }
+}
+
+fn end_step(mark: Mark, n: usize, m: usize) -> Step
+    ensures { λ r. ⌜ r ≡ endStep mark n m ⌝ }
+{
+    if (n == 0) | (n == m) {
+        return hand_out(mark, m);
     }
     lose(4)
 }
 
-// A data word: past a met count, past the room with no count, or one whose value goes into the room, if its place is there. Asked at the
-// write itself, that last test makes reading up to ten times slower (docs/PERFORMANCE.md).
-fn value_step(room: usize, kind: u8, n: usize, m: usize) -> Step
-    ensures { λ r. ⌜ r ≡ valueStep room kind n m ⌝ }
+// A data word: past a met count, past the room with no count, no value, or one whose value goes into the room, if its place is there. Asked
+// at the write itself, that last test makes reading up to ten times slower (docs/PERFORMANCE.md).
+fn value_step(void: bool, room: usize, mark: Mark, n: usize, m: usize) -> Step
+    ensures { λ r. ⌜ r ≡ valueStep void room mark n m ⌝ }
 {
     if (n != 0) & (n <= m) {
         return lose(5);
@@ -133,9 +149,12 @@ fn value_step(room: usize, kind: u8, n: usize, m: usize) -> Step
     if (n == 0) & (room <= m) {
         return lose(6);
     }
+    if void {
+        return lose(7);
+    }
     Step {
         phase: Phase::Data {
-            kind: kind,
+            mark: mark,
             announced: n,
             collected: m + 1,
         },
@@ -144,15 +163,17 @@ fn value_step(room: usize, kind: u8, n: usize, m: usize) -> Step
     }
 }
 
-fn data_step(room: usize, kind: u8, n: usize, m: usize, c: Class) -> Step
-    ensures { λ r. ⌜ r ≡ dataStep room kind n m c ⌝ }
+// 100h is no value in 8-bit mode.
+fn data_step(mode: u8, room: usize, mark: Mark, n: usize, m: usize, c: Class) -> Step
+    ensures { λ r. ⌜ r ≡ dataStep mode room mark n m c ⌝ }
 {
     match c {
         Class::Separator => start_again(),
-        Class::Ending => end_step(kind, n, m),
-        Class::Byte => value_step(room, kind, n, m),
-        Class::Other => value_step(room, kind, n, m),
-        Class::Illegal => value_step(room, kind, n, m),
+        Class::Ending => end_step(mark, n, m),
+        Class::Byte => value_step(false, room, mark, n, m),
+        Class::Other => value_step(false, room, mark, n, m),
+        Class::Illegal => value_step(false, room, mark, n, m),
+        Class::Null => value_step(mode == 8, room, mark, n, m),
     }
 }
 
@@ -163,48 +184,48 @@ fn count_of(b0: u8, b1: u8, b2: u8, b3: u8) -> usize
     b0 as usize + b1 as usize * 256 + b2 as usize * 65536 + b3 as usize * 16777216
 }
 
-// One word of that class, in a room of that length.
-pub(crate) fn step_by(c: Class, room: usize, phase: Phase, w: u16) -> Step
-    ensures { λ r. ⌜ r ≡ stepBy room phase c (w % 256) ⌝ }
+// One word of that class, in that mode and a room of that length.
+pub(crate) fn step_by(c: Class, mode: u8, room: usize, phase: Phase, w: u16) -> Step
+    ensures { λ r. ⌜ r ≡ stepBy mode room phase c (w % 256) ⌝ }
 {
     let b = (w % 256) as u8;
     match phase {
         Phase::Idle => idle_step(c),
         Phase::Kind => kind_step(c, b),
-        Phase::First { kind } => count_step(c, go_on(Phase::Second { kind: kind, b0: b })),
-        Phase::Second { kind, b0 } => count_step(
+        Phase::First { mark } => count_step(c, go_on(Phase::Second { mark: mark, b0: b })),
+        Phase::Second { mark, b0 } => count_step(
             c,
             go_on(Phase::Third {
-                kind: kind,
+                mark: mark,
                 b0: b0,
                 b1: b,
             }),
         ),
-        Phase::Third { kind, b0, b1 } => count_step(
+        Phase::Third { mark, b0, b1 } => count_step(
             c,
             go_on(Phase::Fourth {
-                kind: kind,
+                mark: mark,
                 b0: b0,
                 b1: b1,
                 b2: b,
             }),
         ),
-        Phase::Fourth { kind, b0, b1, b2 } => count_step(
+        Phase::Fourth { mark, b0, b1, b2 } => count_step(
             c,
-            count_whole(room, kind, count_of(b0, b1, b2, b)),
+            count_whole(room, mark, count_of(b0, b1, b2, b)),
         ),
         Phase::Data {
-            kind,
+            mark,
             announced,
             collected,
-        } => data_step(room, kind, announced, collected, c),
+        } => data_step(mode, room, mark, announced, collected, c),
     }
 }
 
-// One word, in a room of that length; and the numbers of what it reports and of the next phase, by those of the phase and the word.
-pub fn step_word(room: usize, phase: Phase, w: u16) -> Step
-    ensures { λ r. ⌜ (r ≡ stepOf room phase w) × (metNumbers (r .met) ≡ metBy room (phaseNumbers phase) (classNumberOf w) (w % 256))
-        × (phaseNumbers (r .phase) ≡ phaseBy room (phaseNumbers phase) (classNumberOf w) (w % 256)) ⌝ }
+// One word, in that mode and a room of that length; and the numbers of what it reports and of the next phase, by those of the phase and the word.
+pub fn step_word(mode: u8, room: usize, phase: Phase, w: u16) -> Step
+    ensures { λ r. ⌜ (r ≡ stepOf mode room phase w) × (metNumbers (r .met) ≡ metBy mode room (phaseNumbers phase) (classNumberOf w) (w % 256))
+        × (phaseNumbers (r .phase) ≡ phaseBy mode room (phaseNumbers phase) (classNumberOf w) (w % 256)) ⌝ }
 {
-    step_by(class::class_of(w), room, phase, w)
+    step_by(class::class_of(w), mode, room, phase, w)
 }

@@ -49,10 +49,10 @@ fn put_value(keeps: bool, m: usize, v: u16, room: &mut [u16])
 // One word: what it does, and its value into the room if it is kept. Its class is asked by the forms: a table named in a reading call costs
 // more than it saves (docs/PERFORMANCE.md).
 fn take_word(mode: u8, phase: Phase, w: u16, room: &mut [u16]) -> Step
-    ensures { λ r. ⌜ (r ≡ stepOf (length (now (room .entry))) phase w)
+    ensures { λ r. ⌜ (r ≡ stepOf mode (length (now (room .entry))) phase w)
         × (now (room .exit) ≡ stored (r .keeps) (collectedOf phase) (valueOf mode w) (now (room .entry))) ⌝ }
 {
-    let s = step::step_by(class::class_by_form(w), room.len(), phase, w);
+    let s = step::step_by(class::class_by_form(w), mode, room.len(), phase, w);
     put_value(
         s.keeps,
         phase::collected_of(phase),
@@ -65,7 +65,7 @@ fn take_word(mode: u8, phase: Phase, w: u16, room: &mut [u16]) -> Step
 // The walk over words, for any phase and any room; and the numbers of the phase and of what was met.
 pub fn walk(mode: u8, phase: Phase, words: &[u16], room: &mut [u16]) -> Walked
     ensures { λ r. ⌜ (leaves r (now (room .exit)) ≡ walkOf mode phase (now (words .entry)) (now (room .entry)))
-        × (numbersOf r ≡ walkBy (length (now (room .entry))) (phaseNumbers phase) (now (words .entry))) ⌝ }
+        × (numbersOf r ≡ walkBy mode (length (now (room .entry))) (phaseNumbers phase) (now (words .entry))) ⌝ }
 {
     let mut p = phase;
     let mut i = 0;

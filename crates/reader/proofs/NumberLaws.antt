@@ -18,6 +18,7 @@ use Rattle.course.specs.declared.Last.the-variants.{Unknown, Number}
 use Rattle.course.specs.declared.Place.{Place}
 use Rattle.course.specs.declared.Place.the-variants.{Shut, At}
 use Rattle.machine.specs.declared.phase.Phase.{Phase}
+use Rattle.machine.specs.declared.phase.Mark.the-variants.{Typed, Nulled}
 use Rattle.machine.specs.declared.phase.Phase.the-variants.{Idle, Kind, First, Second, Third, Fourth, Data}
 use Rattle.machine.specs.declared.step.Met.{Met}
 use Rattle.machine.specs.declared.step.Met.the-variants.{Nothing, Whole, Lost}
@@ -45,11 +46,16 @@ jump-numbered lines last n j e = (e, ap jumpNumbers e ∙ jump-numbers lines las
 open-is : (p : Phase) → isBusy p ≡ isOpen p
 open-is Idle = refl
 open-is Kind = refl
-open-is (First k) = refl
-open-is (Second k a) = refl
-open-is (Third k a b) = refl
-open-is (Fourth k a b c) = refl
-open-is (Data k n m) = refl
+open-is (First (Typed k)) = refl
+open-is (Second (Typed k) a) = refl
+open-is (Third (Typed k) a b) = refl
+open-is (Fourth (Typed k) a b c) = refl
+open-is (Data (Typed k) n m) = refl
+open-is (First Nulled) = refl
+open-is (Second Nulled a) = refl
+open-is (Third Nulled a b) = refl
+open-is (Fourth Nulled a b c) = refl
+open-is (Data Nulled n m) = refl
 
 -- ---- no line begun
 begun-numbers : (st : Reader) (n : ℕ) (t : Settings) → eventNumbers (begun st n t .event)

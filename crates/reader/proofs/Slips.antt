@@ -22,6 +22,7 @@ use Rattle.line.specs.Check.{legal, numberOf, settingsOf, timed, formed, crcSta
 use Rattle.course.specs.declared.Last.the-variants.{Number}
 use Rattle.course.specs.declared.Place.the-variants.{Shut}
 use Rattle.course.specs.Course.{nextNumber}
+use Rattle.machine.specs.declared.phase.Mark.the-variants.{Typed}
 use Rattle.machine.specs.declared.phase.Phase.the-variants.{Data}
 use Rattle.machine.specs.Phases.{phaseNumbers}
 use Rattle.reader.specs.declared.state.Reader.{Reader}
@@ -54,7 +55,7 @@ put i w l = take i l ++ (w ∷ drop (suc i) l)
 
 -- a reader behind line 7 in the middle of a block, and what a call tells
 open-block : Reader
-open-block = record { system = 0; mode = 8; last = Number 7; settings = settings; place = Shut; phase = Data 1 3 2 }
+open-block = record { system = 0; mode = 8; last = Number 7; settings = settings; place = Shut; phase = Data (Typed 1) 3 2 }
 
 lent : Reader → List ℕ → Told
 lent st l = reading st l (replicate 16384 0) .told
@@ -71,8 +72,9 @@ slips =
     ∷ case (yesNo (blockRefused 1440 0x49 0) ∷ yesNo (blockRefused 1920 0x49 0) ∷ []) (pos 1 ∷ pos 0 ∷ [])
     -- "CRC over bytes and not ten bits": B8 counts
     ∷ number (crcOf crcStart (0x100 ∷ [])) 0x2c7f7 ∷ number (crcOf crcStart (0x000 ∷ [])) 0x3dff7
-    -- "Byte-form parity asked of 9-bit data"
-    ∷ number (lineFault 0 9 (put 276 0x100 (line 1))) 0 ∷ number (lineFault 0 8 (put 276 0x100 (line 1))) 15
+    -- "Byte-form parity asked of 9-bit data"; and of 100h, which passes in both modes
+    ∷ number (lineFault 0 9 (put 276 0x103 (line 1))) 0 ∷ number (lineFault 0 8 (put 276 0x103 (line 1))) 15
+    ∷ number (lineFault 0 9 (put 276 0x100 (line 1))) 0 ∷ number (lineFault 0 8 (put 276 0x100 (line 1))) 0
     -- "Keeping the open block after a refused line": line 8 goes on with it; refused, it drops it, and line 9 is begun unknown, with no block open
     ∷ case (heard (lent open-block (line 8))) (pos 1 ∷ pos 8 ∷ pos 0 ∷ pos 0 ∷ pos 3 ∷ pos 1 ∷ pos 3 ∷ pos 2 ∷ [])
     ∷ case (heard (lent open-block (put 0 0x000 (line 8)))) (pos 0 ∷ pos 3 ∷ pos 1 ∷ pos 0 ∷ [])

@@ -12,10 +12,10 @@ use borrow.Author.Tests.{lt-ltb, le-ltb, ne-eqb}
 use Rattle.lists.specs.Tests.{pick}
 use Rattle.lists.proofs.Tests.{pick-true, pick-false, lt-or-le}
 use Rattle.words.specs.Forms.{isByte, isData}
-use Rattle.words.specs.Class.{classOf, classNumber, separator, endCode}
+use Rattle.words.specs.Class.{classOf, classNumber, separator, endCode, nullWord}
 use Rattle.words.specs.Table.{classBit, tabulate, classTable, bitIn, classOfBit, classIn, classNumberIn}
 use Rattle.words.specs.declared.class.Class.{Class}
-use Rattle.words.specs.declared.class.Class.the-variants.{Byte, Other, Separator, Ending, Illegal}
+use Rattle.words.specs.declared.class.Class.the-variants.{Byte, Other, Separator, Ending, Illegal, Null}
 use Rattle.words.proofs.ClassLaws.{number-by, class-illegal}
 
 -- ---- a table as a rule makes it
@@ -31,7 +31,7 @@ at-table n f k h = getD-tabulate 0 n f k h ∙ ap f (zero-add k)
 pub no-word : (w : ℕ) → 1024 ≤ w → classOf w ≡ Illegal
 unfolding isByte isData
 no-word w h =
-    class-illegal w (simp (le-ltb w 1024 h)) (simp (le-ltb w 1024 h)) (ne-eqb w separator (λ e. omega (arith, e))) (ne-eqb w endCode (λ e. omega (arith, e)))
+    class-illegal w (simp (le-ltb w 1024 h)) (ne-eqb w nullWord (λ e. omega (arith, e))) (simp (le-ltb w 1024 h)) (ne-eqb w separator (λ e. omega (arith, e))) (ne-eqb w endCode (λ e. omega (arith, e)))
 
 -- ---- the entry of every number
 pub table-rule : (w : ℕ) → bitIn classTable w ≡ classBit (classOf w)
@@ -55,6 +55,7 @@ bit-back Other = refl
 bit-back Separator = refl
 bit-back Ending = refl
 bit-back Illegal = refl
+bit-back Null = refl
 
 -- and the class of every number
 pub table-class : (w : ℕ) → classIn classTable w ≡ classOf w
@@ -62,9 +63,9 @@ unfolding classIn
 table-class w = ap classOfBit (table-rule w) ∙ bit-back (classOf w)
 
 -- a bit that is none of the others is the illegal one's
-pub rest-illegal : (b : ℕ) → (b ≡ 1 → ⊥) → (b ≡ 2 → ⊥) → (b ≡ 4 → ⊥) → (b ≡ 8 → ⊥) → classOfBit b ≡ Illegal
+pub rest-illegal : (b : ℕ) → (b ≡ 1 → ⊥) → (b ≡ 2 → ⊥) → (b ≡ 4 → ⊥) → (b ≡ 8 → ⊥) → (b ≡ 32 → ⊥) → classOfBit b ≡ Illegal
 unfolding classOfBit pick
-rest-illegal b h i j k = simp (ne-eqb b 1 h, ne-eqb b 2 i, ne-eqb b 4 j, ne-eqb b 8 k)
+rest-illegal b h i j k l = simp (ne-eqb b 1 h, ne-eqb b 2 i, ne-eqb b 4 j, ne-eqb b 8 k, ne-eqb b 32 l)
 
 -- a class by an entry, with its number
 pub class-entered : (t : List ℕ) (w : ℕ) (k : Class) → k ≡ classIn t w → (k ≡ classIn t w) × (classNumber k ≡ classNumberIn t w)
@@ -72,5 +73,5 @@ unfolding classIn classOfBit classNumberIn
 class-entered t w k e =
     let b = bitIn t w in (
       e,
-      ap classNumber e ∙ number-by (eqb b 1) (eqb b 2) (eqb b 4) (eqb b 8),
+      ap classNumber e ∙ number-by (eqb b 1) (eqb b 32) (eqb b 2) (eqb b 4) (eqb b 8),
     )

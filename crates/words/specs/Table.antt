@@ -8,7 +8,7 @@ use lib.ListN.{getD}
 use Rattle.lists.specs.Tests.{pick}
 use Rattle.words.specs.Class.{classOf}
 use Rattle.words.specs.declared.class.Class.{Class}
-use Rattle.words.specs.declared.class.Class.the-variants.{Byte, Other, Separator, Ending, Illegal}
+use Rattle.words.specs.declared.class.Class.the-variants.{Byte, Other, Separator, Ending, Illegal, Null}
 
 -- one bit for each class, so that those of many words can be or-ed together
 abbrev pub classBit : Class → ℕ
@@ -17,6 +17,7 @@ classBit Other = 2
 classBit Separator = 4
 classBit Ending = 8
 classBit Illegal = 16
+classBit Null = 32
 
 -- what a rule makes of the n numbers from i on
 abbrev pub tabulate : ℕ → ℕ → (ℕ → ℕ) → List ℕ
@@ -33,14 +34,14 @@ bitIn t w = pick (ltb w 1024) (getD t w 0) 16
 
 -- the class of a bit, and of a number in a table
 unfoldable pub classOfBit : ℕ → Class
-classOfBit b = pick (eqb b 1) Byte (pick (eqb b 2) Other (pick (eqb b 4) Separator (pick (eqb b 8) Ending Illegal)))
+classOfBit b = pick (eqb b 1) Byte (pick (eqb b 32) Null (pick (eqb b 2) Other (pick (eqb b 4) Separator (pick (eqb b 8) Ending Illegal))))
 
 unfoldable pub classIn : List ℕ → ℕ → Class
 classIn t w = classOfBit (bitIn t w)
 
 -- the number of that class, by the entry alone
 unfoldable pub classNumberIn : List ℕ → ℕ → ℕ
-classNumberIn t w = let b = bitIn t w in pick (eqb b 1) 1 (pick (eqb b 2) 2 (pick (eqb b 4) 3 (pick (eqb b 8) 4 5)))
+classNumberIn t w = let b = bitIn t w in pick (eqb b 1) 1 (pick (eqb b 32) 6 (pick (eqb b 2) 2 (pick (eqb b 4) 3 (pick (eqb b 8) 4 5))))
 
 -- what a function makes of numbers, or-ed to a number before
 abbrev pub orOf : (ℕ → ℕ) → ℕ → List ℕ → ℕ

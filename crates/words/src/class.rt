@@ -1,8 +1,8 @@
-// What a word of the payload is: one table of 1,024 entries, by which every class of a payload word is decided. A constant array is built
-// anew wherever it is named, so a loop over words asks for the table once and lends it down.
+// What a word of the payload is, by one table of 1,024 entries. A constant array is built anew wherever it is named, so a loop over words asks
+// for the table once and lends it down; a walk, which asks few words a call, goes by the forms.
 use crate::forms;
 ghost use mathlib.Core.Path.{_≡_};
-ghost use Rattle.words.specs.Class.{classOf, classNumber, classNumberOf, isCode};
+ghost use Rattle.words.specs.Class.{classOf, classNumber, classNumberOf, isCode, isNull};
 ghost use Rattle.words.specs.Table.{classTable, bitIn, classIn, classNumberIn};
 
 // The separator of a block, and its end code.
@@ -10,16 +10,20 @@ pub const SEPARATOR: u16 = 0x309;
 
 pub const END_CODE: u16 = 0x30a;
 
+// The word that decks of the 2001 edition send as an invalid type.
+pub const NULL_WORD: u16 = 0x100;
+
 pub enum Class {
     Byte, // byte form
-    Other, // data form, and not byte form
+    Other, // data form, and not byte form, 100h apart
     Separator, // 309h
     Ending, // 30Ah
     Illegal, // every other number, 400h and above too
+    Null, // 100h
 }
 
 // A bit for each class, so that the classes of many words can be or-ed together: byte form 1, other data form 2, separator 4, end code 8,
-// illegal 16. Entry w is that of the word w, 32 words a row.
+// illegal 16, 100h 32. Entry w is that of the word w, 32 words a row.
 const CLASSES: [u8; 1024] =
     *b"\x10\x10\x10\x10\x10\x10\x10\x10\x10\x10\x10\x10\x10\x10\x10\x10\x10\x10\x10\x10\x10\x10\x10\x10\x10\x10\x10\x10\x10\x10\x10\x10\
     \x10\x10\x10\x10\x10\x10\x10\x10\x10\x10\x10\x10\x10\x10\x10\x10\x10\x10\x10\x10\x10\x10\x10\x10\x10\x10\x10\x10\x10\x10\x10\x10\
@@ -29,7 +33,7 @@ const CLASSES: [u8; 1024] =
     \x10\x10\x10\x10\x10\x10\x10\x10\x10\x10\x10\x10\x10\x10\x10\x10\x10\x10\x10\x10\x10\x10\x10\x10\x10\x10\x10\x10\x10\x10\x10\x10\
     \x10\x10\x10\x10\x10\x10\x10\x10\x10\x10\x10\x10\x10\x10\x10\x10\x10\x10\x10\x10\x10\x10\x10\x10\x10\x10\x10\x10\x10\x10\x10\x10\
     \x10\x10\x10\x10\x10\x10\x10\x10\x10\x10\x10\x10\x10\x10\x10\x10\x10\x10\x10\x10\x10\x10\x10\x10\x10\x10\x10\x10\x10\x10\x10\x10\
-    \x02\x01\x01\x02\x01\x02\x02\x01\x01\x02\x02\x01\x02\x01\x01\x02\x01\x02\x02\x01\x02\x01\x01\x02\x02\x01\x01\x02\x01\x02\x02\x01\
+    \x20\x01\x01\x02\x01\x02\x02\x01\x01\x02\x02\x01\x02\x01\x01\x02\x01\x02\x02\x01\x02\x01\x01\x02\x02\x01\x01\x02\x01\x02\x02\x01\
     \x01\x02\x02\x01\x02\x01\x01\x02\x02\x01\x01\x02\x01\x02\x02\x01\x02\x01\x01\x02\x01\x02\x02\x01\x01\x02\x02\x01\x02\x01\x01\x02\
     \x01\x02\x02\x01\x02\x01\x01\x02\x02\x01\x01\x02\x01\x02\x02\x01\x02\x01\x01\x02\x01\x02\x02\x01\x01\x02\x02\x01\x02\x01\x01\x02\
     \x02\x01\x01\x02\x01\x02\x02\x01\x01\x02\x02\x01\x02\x01\x01\x02\x01\x02\x02\x01\x02\x01\x01\x02\x02\x01\x01\x02\x01\x02\x02\x01\
@@ -80,6 +84,7 @@ pub fn class_in(t: &[u8; 1024], w: u16) -> Class
         2 => Class::Other,
         4 => Class::Separator,
         8 => Class::Ending,
+        32 => Class::Null,
         _ => Class::Illegal,
     }
 }
@@ -91,12 +96,15 @@ pub fn class_of(w: u16) -> Class
     class_in(&classes(), w)
 }
 
-// The same by the forms and the two codes, with no table: for a walk, which stops at few words and would build the table in each call.
+// The same by the forms, 100h and the two codes, with no table: for a walk, which stops at few words and would build the table in each call.
 pub fn class_by_form(w: u16) -> Class
     ensures { λ r. ⌜ (r ≡ classOf w) × (classNumber r ≡ classNumberOf w) ⌝ }
 {
     if forms::is_byte(w) {
         return Class::Byte;
+    }
+    if w == NULL_WORD {
+        return Class::Null;
     }
     if forms::is_data(w) {
         return Class::Other;
@@ -115,4 +123,11 @@ pub fn is_code(w: u16) -> bool
     ensures { λ r. ⌜ r ≡ isCode (classOf w) ⌝ }
 {
     (w == SEPARATOR) | (w == END_CODE)
+}
+
+// The word is 100h.
+pub fn is_null(w: u16) -> bool
+    ensures { λ r. ⌜ r ≡ isNull (classOf w) ⌝ }
+{
+    w == NULL_WORD
 }

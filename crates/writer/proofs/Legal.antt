@@ -1,7 +1,7 @@
 -- Every word that an accepted addition lays is legal in its line.
 -- Assumes nothing.
 use mathlib.Core.Path.{_≡_, refl, sym, ap, ap₂, _∙_}
-use mathlib.Core.Bool.{Bool, true, false, _&&_}
+use mathlib.Core.Bool.{Bool, true, false, _&&_, _||_}
 use mathlib.Core.List.{List, [], _∷_, map}
 use Prim.Native.Nat.{ℕ, zero, suc, _-_, _/_, _%_, _<_}
 use native.Mathlib.Omega.{arith}
@@ -14,7 +14,8 @@ use Rattle.lists.proofs.Tests.{or-left, or-right, both-true, pick-elim}
 use Rattle.lists.proofs.Lists.{each-append, each-map}
 use Rattle.words.specs.Forms.{isByte, isData, byteWord, dataWord}
 use Rattle.words.specs.Modes.{values, wordOf}
-use Rattle.words.specs.Class.{separator, endCode}
+use Rattle.words.specs.Class.{classOf, separator, endCode, nullWord, isNull}
+use Rattle.words.proofs.ClassLaws.{class-byte}
 use Rattle.words.proofs.FormLaws.{byte-in, data-in, byte-data, byte-of-low}
 use Rattle.line.specs.Fixed.{isVariable}
 use Rattle.line.specs.Check.{legal}
@@ -42,16 +43,30 @@ byte-any v = ap isByte (sym (byte-of-low v)) ∙ byte-in (v % 256) (omega arith)
 
 pub byte-legal : (mode : ℕ) (variable : Bool) (v : ℕ) → legal mode variable (byteWord v) ≡ true
 unfolding legal
-byte-legal mode variable v = or-left _ _ (pick-elim (λ (b : Bool). b ≡ true) (eqb mode 8) (λ e. byte-any v) (λ e. byte-data (byteWord v) (byte-any v)))
+byte-legal mode variable v = or-left _ _ (pick-elim (λ (b : Bool). b ≡ true) (eqb mode 8) (λ e. or-left _ _ (byte-any v)) (λ e. byte-data (byteWord v) (byte-any v)))
 
-value-by : (m : Bool) (v : ℕ) → v < pick m 256 512 → pick m (isByte (pick m (byteWord v) (dataWord v))) (isData (pick m (byteWord v) (dataWord v))) ≡ true
+value-by : (m : Bool) (v : ℕ) → v < pick m 256 512
+    → pick m (isByte (pick m (byteWord v) (dataWord v)) || eqb (pick m (byteWord v) (dataWord v)) nullWord) (isData (pick m (byteWord v) (dataWord v))) ≡ true
 unfolding pick
-value-by true v h = byte-in v h
+value-by true v h = or-left _ _ (byte-in v h)
 value-by false v h = data-in v h
 
 pub value-legal : (mode : ℕ) (variable : Bool) (v : ℕ) → ltb v (values mode) ≡ true → legal mode variable (wordOf mode v) ≡ true
 unfolding legal values wordOf
 value-legal mode variable v e = or-left _ _ (value-by (eqb mode 8) v (ltb-true v _ e))
+
+-- a byte is not 100h, and in 8-bit mode no value is
+pub byte-some : (v : ℕ) → isNull (classOf (byteWord v)) ≡ false
+byte-some v = ap isNull (class-byte (byteWord v) (byte-any v))
+
+some-by : (m : Bool) (v : ℕ) → (m && isNull (classOf (pick m (byteWord v) (dataWord v)))) ≡ false
+unfolding pick
+some-by true v = byte-some v
+some-by false v = refl
+
+pub value-some : (mode v : ℕ) → (eqb mode 8 && isNull (classOf (wordOf mode v))) ≡ false
+unfolding wordOf
+value-some mode v = some-by (eqb mode 8) v
 
 pub filler-legal : (mode : ℕ) (variable : Bool) → legal mode variable 0x200 ≡ true
 unfolding legal isByte isData
@@ -59,11 +74,11 @@ filler-legal mode variable = or-left _ _ (pick-elim (λ (b : Bool). b ≡ true) 
 
 separator-legal : (mode : ℕ) → legal mode true separator ≡ true
 unfolding legal
-separator-legal mode = or-right (pick (eqb mode 8) (isByte separator) (isData separator)) true refl
+separator-legal mode = or-right (pick (eqb mode 8) (isByte separator || eqb separator nullWord) (isData separator)) true refl
 
 end-legal : (mode : ℕ) → legal mode true endCode ≡ true
 unfolding legal
-end-legal mode = or-right (pick (eqb mode 8) (isByte endCode) (isData endCode)) true refl
+end-legal mode = or-right (pick (eqb mode 8) (isByte endCode || eqb endCode nullWord) (isData endCode)) true refl
 
 -- ---- a block's words
 values-legal : (mode : ℕ) (variable : Bool) (vs : List ℕ) → valued mode vs ≡ true → each (legal mode variable) (map (wordOf mode) vs) ≡ true

@@ -56,7 +56,7 @@ module _ (w : Writer) (line : List ℕ) (kind : ℕ) (vs : List ℕ) where
   k = fitting w (todo w kind vs)
 
   -- an answer of two numbers is not a refusal
-  laid-ok : length (laidNumbers (adding w line kind vs .answer)) ≡ 2 → addFault w (length line) kind vs ≡ 0
+  pub laid-ok : length (laidNumbers (adding w line kind vs .answer)) ≡ 2 → addFault w (length line) kind vs ≡ 0
   laid-ok e =
       ⊎-elim (λ z. z) (λ h. absurd (let a = ap (λ (x : Added). length (laidNumbers (x .answer))) (add-stays w line kind vs h) in let f : ⊥ = omega arith in f))
       (either (addFault w (length line) kind vs))

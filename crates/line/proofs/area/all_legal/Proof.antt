@@ -1,7 +1,8 @@
 -- `line::area::all_legal` meets its contract. Assumes nothing.
 use Rattle.lists.proofs.Needs.{need}
-use mathlib.Core.Path.{sym, ap₂, _∙_, subst}
-use Prim.Native.Nat.{ℕ, _<_}
+use mathlib.Core.Path.{sym, ap₂, _∙_}
+use Prim.Native.Nat.{ℕ}
+use native.Mathlib.Omega.{arith}
 use lib.Dec.{eqb}
 use lib.Bits.{bitAnd}
 use Rattle.line.proofs.AreaLaws.{none-barred, high-barred}
@@ -12,7 +13,7 @@ use Rattle.line.proofs.area.all_legal.Tie as tie
 returns : tie.Need-returns
 returns c =
     let a = c .before .before .before .args in
-    sym (high-barred (a .mode) (a .variable) (a .s .now) (subst (λ (n : ℕ). 1023 < n) (c .before .words-of .ensures) (c .if1 .taken)))
+    sym (high-barred (a .mode) (a .variable) (a .s .now) (omega (arith, c .before .words-of .ensures, c .if1 .taken)))
 
 returns-2 : tie.Need-returns-2
 returns-2 c =

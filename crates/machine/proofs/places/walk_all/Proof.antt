@@ -10,7 +10,7 @@ use borrow.Author.Tests.{not-true, not-false}
 use Rattle.machine.specs.Walk.{past}
 use Rattle.machine.specs.Places.{placesIn, placeRoom, walkPlaces}
 use Rattle.machine.proofs.WalkLaws.{past-zero}
-use Rattle.machine.proofs.PlaceLaws.{turn-stops, turn-goes, turns-end, place-fits, one-left, none-left, values-fit}
+use Rattle.machine.proofs.PlaceLaws.{turn-stops, turn-goes, turns-end, place-fits, one-left, none-left, values-fit, place-some}
 use borrow.Author.Needs.{needs}
 use Rattle.machine.proofs.places.walk_all.Statement.{statement}
 use Rattle.machine.proofs.places.walk_all.Tie as tie
@@ -44,12 +44,18 @@ mul-met-at c =
     let h = place-fits _ _ _ (l .inv .0) (t .loop-test .taken) in
     search needs
 
-shared-slice-read-met-at : tie.Need-shared-slice-read-met-at Inv-loop μ-loop
-shared-slice-read-met-at c =
+part-met-at-end : tie.Need-part-met-at-end Inv-loop μ-loop
+part-met-at-end c =
+    let l = c .before .loop in
+    let h = place-fits _ _ _ (l .inv .0) (c .loop-test .taken) in
+    search needs
+
+met-at-requires : tie.Need-met-at-requires Inv-loop μ-loop
+met-at-requires c κs =
     let t = c .before in
     let l = t .before .loop in
-    let h = place-fits _ _ _ (l .inv .0) (t .loop-test .taken) in
-    search needs
+    let s = t .before .before .before .before in
+    place-some (s .args .size) (l .i) (s .args .words .now) (s .pre .0) (place-fits _ _ _ (l .inv .0) (t .loop-test .taken))
 
 add-put-place : tie.Need-add-put-place Inv-loop μ-loop
 add-put-place c =
@@ -123,8 +129,9 @@ returns-2 c =
 pub walk-all-spec : {M : Type 1} → statement M
 walk-all-spec =
     tie.close (tie.spec
-    Inv-loop μ-loop loop-holds (need (tie.Need-sub-loop Inv-loop μ-loop) (λ c. search needs)) add-e mul-met-at shared-slice-read-met-at
-    (need (tie.Need-sub-met-at Inv-loop μ-loop) (λ c. search needs)) (need (tie.Need-met-at-requires Inv-loop μ-loop) (λ c κs. search needs))
+    Inv-loop μ-loop loop-holds (need (tie.Need-sub-loop Inv-loop μ-loop) (λ c. search needs)) add-e mul-met-at
+    (need (tie.Need-sub-met-at Inv-loop μ-loop) (λ c. search needs)) (need (tie.Need-part-met-at-start Inv-loop μ-loop) (λ c. search needs))
+    part-met-at-end met-at-requires
     (need (tie.Need-is-nothing-requires Inv-loop μ-loop) (λ c κs. search needs)) add-put-place mul-put-place
     (need (tie.Need-sub-put-place Inv-loop μ-loop) (λ c. search needs)) (need (tie.Need-part-put-place-start Inv-loop μ-loop) (λ c. search needs))
     part-put-place-end put-place-requires same-length returns loop-less loop-again (need (tie.Need-same-length-2 Inv-loop μ-loop) (λ c. search needs))

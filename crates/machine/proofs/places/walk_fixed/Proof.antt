@@ -8,6 +8,7 @@ use lib.Dec.{eqb, ltb}
 use lib.ListN.{length}
 use Rattle.machine.specs.Places.{placesIn, walkPlaces, walkFixed}
 use Rattle.machine.proofs.PlaceLaws.{fixed-none, fixed-walk, fixed-fits, front-stops, front-fit}
+use Rattle.machine.proofs.RunLaws.{front-long}
 use Rattle.machine.proofs.WalkNumberLaws.{fixed-numbered}
 use borrow.Author.Needs.{needs}
 use Rattle.machine.proofs.places.walk_fixed.Statement.{statement}
@@ -44,11 +45,15 @@ returns-2 c =
     let a = o .before .before .before .before .args in
     fixed-numbered (a .mode) (a .phase) (a .size) (a .words .now) (a .room .now) _ (c .before .before .walk-all .ensures ∙ whole o)
 
-shared-slice-read-met-at : tie.Need-shared-slice-read-met-at
-shared-slice-read-met-at c = let e = c .before in omega (arith, e .if2 .left, fitting (e .before) .0)
+slice-aggregate-met-at : tie.Need-slice-aggregate-met-at
+slice-aggregate-met-at c = front-long _ _ (c .before .if2 .left)
 
-sub-met-at : tie.Need-sub-met-at
-sub-met-at c = let h = fitting (c .before .before) .0 in search needs
+met-at-requires : tie.Need-met-at-requires
+met-at-requires c κs =
+    let e = c .before in
+    let a = e .before .before .before .before .before .args in
+    let long = front-long (a .size) (a .words .now) (e .if2 .left) in
+    omega (arith, fitting (e .before) .0, long)
 
 walk-all-requires-2 : tie.Need-walk-all-requires-2
 walk-all-requires-2 c κs = fitting (c .before .before .before .before .before .before)
@@ -89,7 +94,7 @@ pub walk-fixed-spec : {M : Type 1} → statement M
 walk-fixed-spec =
     tie.close (tie.spec
     (need tie.Need-minus-or-zero-requires (λ c κs. search needs)) returns walk-all-requires (need tie.Need-same-length (λ c. search needs)) returns-2
-    shared-slice-read-met-at sub-met-at (need tie.Need-met-at-requires (λ c κs. search needs))
+    slice-aggregate-met-at met-at-requires
     (need tie.Need-is-nothing-requires (λ c κs. search needs)) walk-all-requires-2 (need tie.Need-same-length-2 (λ c. search needs)) returns-3
     sub-put-place part-put-place-start (need tie.Need-part-put-place-end (λ c. search needs)) put-place-requires
     (need tie.Need-same-length-3 (λ c. search needs)) returns-4)

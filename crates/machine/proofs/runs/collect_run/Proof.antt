@@ -24,16 +24,16 @@ most-is a =
 
 found : (r : tie.After-run-of) →
     let g = r .before .before .before .before .before .before .before .args in
-    r .run-of .result ≡ takenBy (Data (g .kind) (g .n) (g .m)) (length (g .room .now)) (g .words .now)
+    r .run-of .result ≡ takenBy (g .mode) (Data (g .mark) (g .n) (g .m)) (length (g .room .now)) (g .words .now)
 found r =
     let g = r .before .before .before .before .before .before .before .args in
-    r .run-of .ensures ∙ ap (λ (x : ℕ). runOf (take x (g .words .now))) (most-is (r .before .before))
+    r .run-of .ensures ∙ ap (λ (x : ℕ). runOf (g .mode) (take x (g .words .now))) (most-is (r .before .before))
 
 -- there are so many words
 within : (r : tie.After-run-of) → r .run-of .result ≤ length (r .before .before .before .before .before .before .before .args .words .now)
 within r =
     let g = r .before .before .before .before .before .before .before .args in
-    omega (arith, found r, taken-within (Data (g .kind) (g .n) (g .m)) (length (g .room .now)) (g .words .now))
+    omega (arith, found r, taken-within (g .mode) (Data (g .mark) (g .n) (g .m)) (length (g .room .now)) (g .words .now))
 
 -- and so much room
 fits : (x : tie.Else1) →
@@ -41,7 +41,7 @@ fits : (x : tie.Else1) →
     g .m + x .before .run-of .result ≤ length (g .room .now)
 fits x =
     let g = x .before .before .before .before .before .before .before .before .args in
-    data-fits (g .kind) (g .n) (g .m) (length (g .room .now)) (g .words .now) (x .before .run-of .result) (found (x .before)) (x .if1 .left)
+    data-fits (g .mode) (g .mark) (g .n) (g .m) (length (g .room .now)) (g .words .now) (x .before .run-of .result) (found (x .before)) (x .if1 .left)
 
 slice-aggregate-run-of : tie.Need-slice-aggregate-run-of
 slice-aggregate-run-of c = front-long _ _ (omega (arith, most-is (c .before)))

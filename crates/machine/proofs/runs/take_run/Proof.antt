@@ -14,7 +14,7 @@ add-t14 c =
     let a = c .before .before .before .before .before .before .before .before .before .args in
     let low : p .1 .1 .0 < 18446744073709551616 = search needs in
     let high : length (a .room .now) < 18446744073709551616 = search needs in
-    let h = data-small (p .0) (p .1 .0) (p .1 .1 .0) (length (a .room .now)) (a .words .now) _ 18446744073709551616 (c .before .before .collect-run .ensures .0) low high in
+    let h = data-small (a .mode) (p .0) (p .1 .0) (p .1 .1 .0) (length (a .room .now)) (a .words .now) _ 18446744073709551616 (c .before .before .collect-run .ensures .0) low high in
     search needs
 
 returns : tie.Need-returns

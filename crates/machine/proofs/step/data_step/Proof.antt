@@ -16,6 +16,9 @@ returns-4 c = simp (c .before .enum-told4 .given .1) (c .value-step2 .ensures)
 returns-5 : tie.Need-returns-5
 returns-5 c = simp (c .before .enum-told5 .given .1) (c .value-step3 .ensures)
 
+returns-6 : tie.Need-returns-6
+returns-6 c = simp (c .before .enum-told6 .given .1) (c .value-step4 .ensures)
+
 pub data-step-spec : {M : Type 1} → statement M
 data-step-spec =
     tie.close (tie.spec
@@ -24,4 +27,5 @@ data-step-spec =
     (need tie.Need-enum-told-3 (λ c. search needs)) (need tie.Need-value-step-requires (λ c κs. search needs))
     (need tie.Need-enum-told-4 (λ c. search needs)) (need tie.Need-value-step-requires-2 (λ c κs. search needs))
     (need tie.Need-enum-told-5 (λ c. search needs)) (need tie.Need-value-step-requires-3 (λ c κs. search needs))
-    (need tie.Need-returns (λ c. search needs)) returns-2 returns-3 returns-4 returns-5)
+    (need tie.Need-enum-told-6 (λ c. search needs)) (need tie.Need-value-step-requires-4 (λ c κs. search needs))
+    (need tie.Need-returns (λ c. search needs)) returns-2 returns-3 returns-4 returns-5 returns-6)

@@ -9,7 +9,7 @@ use Rattle.machine.proofs.step.step_word.Tie as tie
 returns : tie.Need-returns
 returns c =
     let a = c .before .before .args in
-    step-numbered (a .room) (a .phase) (a .w) _ (c .step-by .ensures ∙ step-classed (a .room) (a .phase) (a .w) _ (c .before .class-of .ensures .0))
+    step-numbered (a .mode) (a .room) (a .phase) (a .w) _ (c .step-by .ensures ∙ step-classed (a .mode) (a .room) (a .phase) (a .w) _ (c .before .class-of .ensures .0))
 
 pub step-word-spec : {M : Type 1} → statement M
 step-word-spec =

@@ -15,17 +15,17 @@ use Rattle.machine.proofs.walk.take_word.Tie as tie
 -- the step is that of the word
 step-is : (s : tie.After-step-by) →
     let g = s .before .before .before .args in
-    s .step-by .result ≡ stepOf (length (g .room .now)) (g .phase) (g .w)
+    s .step-by .result ≡ stepOf (g .mode) (length (g .room .now)) (g .phase) (g .w)
 step-is s =
     let g = s .before .before .before .args in
-    s .step-by .ensures ∙ step-classed (length (g .room .now)) (g .phase) (g .w) _ (s .before .class-by-form .ensures .0)
+    s .step-by .ensures ∙ step-classed (g .mode) (length (g .room .now)) (g .phase) (g .w) _ (s .before .class-by-form .ensures .0)
 
 put-value-requires : tie.Need-put-value-requires
 put-value-requires c κs = λ e.
     let s = c .before .before .before in
     let g = s .before .before .before .args in
     rw (c .before .before .collected-of .ensures)
-    (step-steady (length (g .room .now)) (g .phase) (g .w) .inside (sym (ap (λ (x : Step). x .keeps) (step-is s)) ∙ e))
+    (step-steady (g .mode) (length (g .room .now)) (g .phase) (g .w) .inside (sym (ap (λ (x : Step). x .keeps) (step-is s)) ∙ e))
 
 returns : tie.Need-returns
 returns c =

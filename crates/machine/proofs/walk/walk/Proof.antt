@@ -22,11 +22,11 @@ abbrev μ-loop : tie.MeasureT-loop
 -- how many words a run took, and the room then
 run-is : (t : tie.After-take-run Inv-loop μ-loop) →
     let l = t .before .before .before .before in
-    t .take-run .result .taken ≡ takenBy (l .loop .p) (length (l .loop .room)) (drop (l .loop .i) (l .before .before .before .args .words .now))
+    t .take-run .result .taken ≡ takenBy (l .before .before .before .args .mode) (l .loop .p) (length (l .loop .room)) (drop (l .loop .i) (l .before .before .before .args .words .now))
 run-is t =
     let l = t .before .before .before .before in
     t .take-run .ensures .0
-    ∙ ap (takenBy (l .loop .p) (length (l .loop .room))) (rest-lent (l .loop .i) (l .before .before .before .args .words .now))
+    ∙ ap (takenBy (l .before .before .before .args .mode) (l .loop .p) (length (l .loop .room))) (rest-lent (l .loop .i) (l .before .before .before .args .words .now))
 
 -- after a run
 ran : (t : tie.After-take-run Inv-loop μ-loop) →

@@ -25,11 +25,15 @@ unfolding classIn classOfBit pick
 returns-4 c = class-entered _ _ _ (ap classOfBit (sym (c .match .keys4) ∙ c .before .bit-in .ensures))
 
 returns-5 : tie.Need-returns-5
+unfolding classIn classOfBit pick
+returns-5 c = class-entered _ _ _ (ap classOfBit (sym (c .match .keys5) ∙ c .before .bit-in .ensures))
+
+returns-6 : tie.Need-returns-6
 unfolding classIn
-returns-5 c =
+returns-6 c =
     let r = c .match .rest in
-    class-entered _ _ _ (sym (rest-illegal _ (r .0 .0 .0 .1) (r .0 .0 .1) (r .0 .1) (r .1)) ∙ ap classOfBit (c .before .bit-in .ensures))
+    class-entered _ _ _ (sym (rest-illegal _ (r .0 .0 .0 .0 .1) (r .0 .0 .0 .1) (r .0 .0 .1) (r .0 .1) (r .1)) ∙ ap classOfBit (c .before .bit-in .ensures))
 
 pub class-in-spec : {M : Type 1} → statement M
 class-in-spec =
-    tie.close (tie.spec (need tie.Need-bit-in-requires (λ c κs. search needs)) returns returns-2 returns-3 returns-4 returns-5)
+    tie.close (tie.spec (need tie.Need-bit-in-requires (λ c κs. search needs)) returns returns-2 returns-3 returns-4 returns-5 returns-6)
