@@ -21,20 +21,22 @@ pub fn same_words(s: &[u16], t: &[u16]) -> bool
     ok
 }
 
-// The same of bytes.
+// The same of bytes: addresses and marks, a few each. It leaves at the first that differs, because with a loop that goes to its end the compiler takes the
+// whole settings into single bytes, wherever they stand in a state (docs/PERFORMANCE.md).
 pub fn same_bytes(s: &[u8], t: &[u8]) -> bool
     ensures { λ r. ⌜ r ≡ same (now (s .entry)) (now (t .entry)) ⌝ }
 {
     if s.len() != t.len() {
         return false;
     }
-    let mut ok = true;
     let mut i = 0;
     while i < s.len() {
-        ok = ok & (s[i] == t[i]);
+        if s[i] != t[i] {
+            return false;
+        }
         i += 1;
     }
-    ok
+    true
 }
 
 // The number n where its condition holds, else the number that the later conditions gave.
