@@ -1,67 +1,80 @@
-// The conditions 15 and 16: the words of the area and their CRC. No loop has an early exit, and none asks a word anything: the words and the
-// bits of their classes are or-ed together, and asked once at the end.
+// The conditions 15 and 16: the words of the area and their CRC. There is a loop for each mode and kind of line, and none has an early exit, so that the
+// compiler takes many words at a time. No class is decided here: words are asked for their form, which goes eight at a time where a look into the
+// table of classes goes one by one (docs/PERFORMANCE.md).
 use crate::fixed;
 use crate::head;
 use crate::layout;
 use crate::systems::System;
 use words::class;
 ghost use mathlib.Core.Path.{_≡_};
-ghost use mathlib.Core.Bool.{not};
-ghost use Prim.Native.Nat.{_+_, _≤_, _<_};
-ghost use lib.Dec.{eqb};
+ghost use mathlib.Core.Bool.{true, false};
+ghost use Prim.Native.Nat.{_+_, _≤_};
 ghost use lib.ListN.{length};
-ghost use Rattle.lists.specs.Tests.{pick, lowestOf};
+ghost use Rattle.lists.specs.Tests.{lowestOf};
 ghost use Rattle.lists.specs.Lists.{same, each};
-ghost use Rattle.words.specs.Table.{classTable, bitIn, orOf};
 ghost use Rattle.line.specs.Layout.{endWords};
 ghost use Rattle.line.specs.Check.{legal, areaFaults, payloadFaults};
 
-// The bits of the classes that may not stand in an area: illegal words; in 8-bit mode other data form but 100h; in a fixed line the two codes.
-fn barred(mode: u8, variable: bool) -> u8
-    ensures { λ r. ⌜ r ≡ pick (eqb mode 8) (pick variable 18 30) (pick variable 16 28) ⌝ }
+// 8-bit mode: byte form, or 100h.
+fn is_eight(w: u16) -> bool
+    ensures { λ r. ⌜ r ≡ legal 8 false w ⌝ }
 {
-    if mode == 8 {
-        return if variable { 18 } else { 30 };
-    }
-    if variable { 16 } else { 28 }
+    words::forms::is_byte(w) | (w == class::NULL_WORD)
 }
 
-// The words or-ed together: what is below 400h says that each of them is.
-fn words_of(s: &[u16]) -> u16
-    ensures { λ r. ⌜ r ≡ orOf (λ w. w) 0 (now (s .entry)) ⌝ }
+// 8-bit mode, a fixed line.
+fn all_eight(s: &[u16]) -> bool
+    ensures { λ r. ⌜ r ≡ each (legal 8 false) (now (s .entry)) ⌝ }
 {
-    let mut all = 0u16;
+    let mut ok = true;
     let mut i = 0;
     while i < s.len() {
-        all = all | s[i];
+        ok = ok & is_eight(s[i]);
         i += 1;
     }
-    all
+    ok
 }
 
-// The bits of the classes of words below 400h, or-ed together. The table is lent, because it is built where it is named.
-fn classes_of(t: &[u8; 1024], s: &[u16]) -> u8
-    requires { ⌜ (now t ≡ classTable) × (orOf (λ w. w) 0 (now s) < 1024) ⌝ }
-    ensures { λ r. ⌜ r ≡ orOf (bitIn classTable) 0 (now (s .entry)) ⌝ }
+// 8-bit mode, a variable line.
+fn all_eight_or_code(s: &[u16]) -> bool
+    ensures { λ r. ⌜ r ≡ each (legal 8 true) (now (s .entry)) ⌝ }
 {
-    let mut seen = 0u8;
+    let mut ok = true;
     let mut i = 0;
     while i < s.len() {
-        seen = seen | t[s[i] as usize];
+        ok = ok & (is_eight(s[i]) | class::is_code(s[i]));
         i += 1;
     }
-    seen
+    ok
 }
 
-// Each word may stand in the area. A number of 400h and above is illegal, and never an index.
+// 9-bit mode, a variable line.
+fn all_nine_or_code(s: &[u16]) -> bool
+    ensures { λ r. ⌜ r ≡ each (legal 9 true) (now (s .entry)) ⌝ }
+{
+    let mut ok = true;
+    let mut i = 0;
+    while i < s.len() {
+        ok = ok & (words::forms::is_data(s[i]) | class::is_code(s[i]));
+        i += 1;
+    }
+    ok
+}
+
+// Each word may stand in the area. Mode and kind of line are asked once, and not of each word.
 fn all_legal(mode: u8, variable: bool, s: &[u16]) -> bool
     ensures { λ r. ⌜ r ≡ each (legal mode variable) (now (s .entry)) ⌝ }
 {
-    if 1023 < words_of(s) {
-        return false;
+    if mode == 8 {
+        if variable {
+            return all_eight_or_code(s);
+        }
+        return all_eight(s);
     }
-    let t = class::classes();
-    classes_of(&t, s) & barred(mode, variable) == 0
+    if variable {
+        return all_nine_or_code(s);
+    }
+    head::all_data(s)
 }
 
 // What stands behind the area is its CRC with flag 01h, and nothing with any other.

@@ -67,8 +67,14 @@ pub byte-of-low : (v : ℕ) → byteWord (v % 256) ≡ byteWord v
 unfolding byteWord
 byte-of-low v = ap₂ (λ (p r : ℕ). dataWord (p * 256 + r)) (parity-low v) (mod-mod v 256)
 
-pub byte-is : (w : ℕ) → eqb (byteWord w) w ≡ isByte w
-byte-is w = ap (λ (x : ℕ). eqb x w) (sym (byte-of-low w)) ∙ byte-is-low w
+-- above the low byte stands 2 less its exclusive or
+pub byte-above : (w : ℕ) → eqb (w / 256 + parity (w % 256)) 2 ≡ isByte w
+unfolding isByte parity
+byte-above w =
+    ⊎-elim
+    (λ h. agree→eq (eqb (w / 256 + parity (w % 256)) 2) (isByte w) (below 1024 (λ w. agree (eqb (w / 256 + parity (w % 256)) 2) (isByte w)) tt w h))
+    (λ h. simp (le-ltb w 1024 h, ne-eqb (w / 256 + parity (w % 256)) 2 (λ e. omega (arith, e, h))))
+    (lt-or-le w 1024)
 
 -- ---- what is written reads back, each a test at all values
 pub byte-low : (v : ℕ) → v < 256 → byteWord v % 256 ≡ v

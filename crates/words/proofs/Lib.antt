@@ -2,7 +2,6 @@ pub mod Xor
 pub mod FormLaws
 pub mod ClassLaws
 pub mod TableLaws
-pub mod OrLaws
 pub mod SumLaws
 pub mod CrcLaws
 pub mod Shifts

@@ -42,11 +42,6 @@ table-rule w =
     (λ h. pick-false _ _ (le-ltb w 1024 h) ∙ ap classBit (sym (no-word w h)))
     (lt-or-le w 1024)
 
--- where the table is lent, an index into it gives the entry
-pub entry-at : (t : List ℕ) (w : ℕ) → t ≡ classTable → w < 1024 → getD t w 0 ≡ bitIn classTable w
-unfolding bitIn
-entry-at t w e h = ap (λ (l : List ℕ). getD l w 0) e ∙ sym (pick-true _ _ (lt-ltb w 1024 h))
-
 -- no two classes have one bit
 bit-back : (k : Class) → classOfBit (classBit k) ≡ k
 unfolding classOfBit pick

@@ -3,7 +3,6 @@
 use Prim.Native.Nat.{ℕ, zero, suc}
 use mathlib.Core.List.{List, [], _∷_}
 use lib.Dec.{eqb, ltb}
-use lib.Bits.{bitOr}
 use lib.ListN.{getD}
 use Rattle.lists.specs.Tests.{pick}
 use Rattle.words.specs.Class.{classOf}
@@ -42,8 +41,3 @@ classIn t w = classOfBit (bitIn t w)
 -- the number of that class, by the entry alone
 unfoldable pub classNumberIn : List ℕ → ℕ → ℕ
 classNumberIn t w = let b = bitIn t w in pick (eqb b 1) 1 (pick (eqb b 32) 6 (pick (eqb b 2) 2 (pick (eqb b 4) 3 (pick (eqb b 8) 4 5))))
-
--- what a function makes of numbers, or-ed to a number before
-abbrev pub orOf : (ℕ → ℕ) → ℕ → List ℕ → ℕ
-orOf f a [] = a
-orOf f a (x ∷ xs) = orOf f (bitOr a (f x)) xs

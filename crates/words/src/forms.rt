@@ -21,11 +21,11 @@ pub fn is_data(w: u16) -> bool
     (256 <= w) & (w < 768)
 }
 
-// The word is in byte form: it is what its own low byte is written as.
+// The word is in byte form: above its low byte stands 2, or 1 where the exclusive or of that byte is 1.
 pub fn is_byte(w: u16) -> bool
     ensures { λ r. ⌜ r ≡ isByte w ⌝ }
 {
-    byte_word(w) == w
+    w / 256 + parity_of(w) == 2
 }
 
 // The word in data form of B8-B0 of v.
