@@ -27,16 +27,21 @@ pub fn is_fit(system: u8, mode: u8, length: usize) -> bool
     systems::is_system(system) & (words::forms::is_mode(mode) & long)
 }
 
-// The lowest of 3 to 16 that holds of a line that fits, or 0.
+// The lowest of 3 to 16 that holds of a line that fits, or 0. A fault of the head or of the settings leaves before the area is looked at.
 fn fault_of(system: u8, mode: u8, t: Settings, line: &[u16]) -> u8
     requires { ⌜ (fits system mode (now line) ≡ true) × (t ≡ settingsOf (now line)) ⌝ }
     ensures { λ r. ⌜ r ≡ lowestOf (faults (systemOf system) mode (now (line .entry))) ⌝ }
 {
     let s = systems::system_of(system);
     let r3 = head::head_fault(s, line);
+    if r3 != 0 {
+        return r3;
+    }
     let r10 = settings::settings_fault(system, t);
-    let r15 = area::payload_fault(s, mode, t.block, t.flag, line);
-    lists::or_next(r3, lists::or_next(r10, r15))
+    if r10 != 0 {
+        return r10;
+    }
+    area::payload_fault(s, mode, t.block, t.flag, line)
 }
 
 // A line with a fault: nothing is read of it.

@@ -1,11 +1,11 @@
-// What stands in the head of a line, and the conditions 3 to 9. Each test runs to its end whatever the words are.
+// What stands in the head of a line, and the conditions 3 to 9. No loop has an early exit.
 use crate::settings::Settings;
 use crate::systems::System;
 use crate::timing;
 ghost use mathlib.Core.Path.{_≡_};
 ghost use mathlib.Core.List.{map};
 ghost use Prim.Native.Nat.{_+_, _-_, _≤_};
-ghost use lib.ListN.{length};
+ghost use lib.ListN.{length, drop};
 ghost use Rattle.lists.specs.Tests.{lowestOf};
 ghost use Rattle.lists.specs.Lists.{part, same, each};
 ghost use Rattle.words.specs.Forms.{isByte, isData};
@@ -127,19 +127,31 @@ fn is_numbered(lines: u16, line: &[u16]) -> bool
     (1 <= n) & ((n <= lines) & (high == 0))
 }
 
-// The lowest of 3 to 9 that holds of a line of the system's length, or 0: from the last condition to the first.
-pub(crate) fn head_fault(s: System, line: &[u16]) -> u8
-    requires { ⌜ (s .payload + 61 ≤ s .length) × (s .length ≡ length (now line)) ⌝ }
-    ensures { λ r. ⌜ r ≡ lowestOf (headFaults s (now (line .entry))) ⌝ }
+// The lowest of 5 to 9 that holds of a line of the system's length, or 0: from the last condition to the first.
+fn words_fault(s: System, line: &[u16]) -> u8
+    requires { ⌜ 57 ≤ length (now line) ⌝ }
+    ensures { λ r. ⌜ r ≡ lowestOf (drop 2 (headFaults s (now (line .entry)))) ⌝ }
 {
-    let sav = s.length - s.payload - 4;
     let sum = words::checksum::checksum_of(&line[7..56]);
     let r9 = lists::or_else(!is_numbered(s.lines, line), 9, 0);
     let r8 = lists::or_else(!crc_stands(line, 14, 54), 8, r9);
     let r7 = lists::or_else(!crc_stands(line, 7, 12), 7, r8);
     let r6 = lists::or_else(!lists::same_words(&line[56..57], &[sum]), 6, r7);
-    let r5 = lists::or_else(!is_formed(line), 5, r6);
+    lists::or_else(!is_formed(line), 5, r6)
+}
+
+// The lowest of 3 to 9 that holds of a line of the system's length, or 0. 3 and 4 leave: what is no line of ours costs little.
+pub(crate) fn head_fault(s: System, line: &[u16]) -> u8
+    requires { ⌜ (s .payload + 61 ≤ s .length) × (s .length ≡ length (now line)) ⌝ }
+    ensures { λ r. ⌜ r ≡ lowestOf (headFaults s (now (line .entry))) ⌝ }
+{
+    let sav = s.length - s.payload - 4;
+    if !is_timed(sav, line) {
+        return 3;
+    }
     let first = lists::same_words(&line[4..10], &[0x000u16, 0x3ff, 0x3ff, 0x140, 0x101, 0x22e]);
-    let r4 = lists::or_else(!first, 4, r5);
-    lists::or_else(!is_timed(sav, line), 3, r4)
+    if !first {
+        return 4;
+    }
+    words_fault(s, line)
 }
