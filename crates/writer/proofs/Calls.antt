@@ -31,7 +31,7 @@ use Rattle.writer.specs.State.{laidOf, endIn, moved}
 use Rattle.writer.specs.Block.{blockWords, fixedWords, wordsIn}
 use Rattle.writer.specs.Adding.{addFault, todo, fitting, adding}
 use Rattle.writer.specs.Closing.{closeFault, sealed, closing}
-use Rattle.writer.proofs.FillLaws.{mid-paste, part-whole, piece-law}
+use Rattle.writer.proofs.FillLaws.{mid-paste, part-whole}
 use Rattle.writer.proofs.BlockLaws.{words-variable, words-fixed, fixed-long, count, count-fixed, count-between, words-long}
 use Rattle.line.proofs.SystemLaws.{payload-most, length-most}
 use Rattle.writer.proofs.Refusals.{CanAdd, can-add}
@@ -144,13 +144,6 @@ module _ {w : Writer} {line : List ℕ} {kind : ℕ} {vs : List ℕ} {p j rest k
   enough : k ≤ length (drop j (wordsIn (w .settings .block) (w .mode) kind vs))
   enough = omega (arith, f .now, f .left, length-drop j (wordsIn (w .settings .block) (w .mode) kind vs), words-long (w .settings .block) (w .mode) kind vs)
 
-  -- the words that stand at the place are those laid, and the CRC is taken on over them
-  laid-crc : (ys : List ℕ) (c : ℕ) → putMid a (a + k - a) line ys ≡ paste line a (drop j (wordsIn (w .settings .block) (w .mode) kind vs)) k
-      → c ≡ crcOf (w .crc) (take (a + k - a) (drop a (putMid a (a + k - a) line ys))) → c ≡ crcOf (w .crc) (take k (drop j (wordsIn (w .settings .block) (w .mode) kind vs)))
-  laid-crc ys c pasted hc =
-      let ws = drop j (wordsIn (w .settings .block) (w .mode) kind vs) in
-      hc ∙ ap (crcOf (w .crc)) (ap (λ (l : List ℕ). take (a + k - a) (drop a l)) pasted ∙ piece-law line ws a a k (omega (arith, within)) enough)
-
   pasted : (ys : List ℕ) → ys ≡ take (length (take (a + k - a) (drop a line))) (drop j (wordsIn (w .settings .block) (w .mode) kind vs))
       → putMid a (a + k - a) line ys ≡ paste line a (drop j (wordsIn (w .settings .block) (w .mode) kind vs)) k
   pasted ys hy = mid-paste line (drop j (wordsIn (w .settings .block) (w .mode) kind vs)) ys a k within hy
@@ -224,7 +217,7 @@ place-found w line kind vs clear v p a hp ha =
 
 pub place-done : {w : Writer} {line : List ℕ} {kind : ℕ} {vs : List ℕ} {p a : ℕ} → Found w line kind vs p 0 (length vs + 1) (length vs + 1) a
     → isVariable (w .settings .block) ≡ false → (ys : List ℕ) (c : ℕ) (st : Writer) → ys ≡ fixedWords (w .mode) kind vs
-    → c ≡ crcOf (w .crc) (take (a + (length vs + 1) - a) (drop a (putMid a (a + (length vs + 1) - a) line ys)))
+    → c ≡ crcOf (w .crc) ys
     → st ≡ moved w (At (p + (length vs + 1))) NoBlock c → added Finished st (putMid a (a + (length vs + 1) - a) line ys) ≡ adding w line kind vs
 place-done {w} {line} {kind} {vs} {p} {a} f v ys c st e hc hs =
     let all = words-fixed (w .settings .block) (w .mode) kind vs v in
@@ -234,4 +227,5 @@ place-done {w} {line} {kind} {vs} {p} {a} f v ys c st e hc hs =
     let whole = eq-eqb (length vs + 1) (length vs + 1) refl in
     let words = e ∙ sym (take-all k (fixedWords (w .mode) kind vs) (omega (arith, many, long))) ∙ ap (take k) (sym all) in
     add-done f ys NoBlock c Finished st words
-    (sym (pick-true NoBlock (Part kind (length vs) (0 + (length vs + 1))) whole)) (laid-crc f ys c (pasted f ys words) hc) (sym (pick-true Finished Unfinished whole)) hs
+    (sym (pick-true NoBlock (Part kind (length vs) (0 + (length vs + 1))) whole))
+    (hc ∙ ap (crcOf (w .crc)) (words ∙ ap (λ (n : ℕ). take n (wordsIn (w .settings .block) (w .mode) kind vs)) many)) (sym (pick-true Finished Unfinished whole)) hs

@@ -7,7 +7,7 @@ use Prim.Native.Nat.{ℕ, zero, suc, _+_, _-_, _%_, _≤_, min}
 use native.Mathlib.Nat.{zero-sub, sub-zero, suc-sub-suc}
 use native.Mathlib.Omega.{arith}
 use lib.Dec.{eqb}
-use lib.ListN.{length, take, drop, length-take, length-drop, drop-of-length-le}
+use lib.ListN.{length, take, drop, set, length-take, length-drop, drop-of-length-le}
 use lib.Seq.{length-take-le, take-all, take-at, drop-at, paste}
 use borrow.Rule.Slice.PartMut.{putMid}
 use borrow.Author.Tests.{eq-eqb, ne-eqb}
@@ -144,3 +144,14 @@ piece-law l s a p k ha hk =
     let m : p + k - p ≡ k = omega arith in
     ap₂ take m (ap (drop a) (append-assoc (take a l) (take k s) (drop (a + k) l)) ∙ drop-at (take a l) (take k s ++ drop (a + k) l) a (length-take-le a l ha))
     ∙ take-at (take k s) (drop (a + k) l) k (length-take-le k s hk)
+
+-- ---- six words written one by one
+pub six-set : (d : List ℕ) (a b c e f g : ℕ) → length d ≡ 6 → set (set (set (set (set (set d 0 a) 1 b) 2 c) 3 e) 4 f) 5 g ≡ a ∷ b ∷ c ∷ e ∷ f ∷ g ∷ []
+six-set [] a b c e f g h = absurd (omega arith)
+six-set (s ∷ []) a b c e f g h = absurd (omega arith)
+six-set (s ∷ t ∷ []) a b c e f g h = absurd (omega arith)
+six-set (s ∷ t ∷ u ∷ []) a b c e f g h = absurd (omega arith)
+six-set (s ∷ t ∷ u ∷ v ∷ []) a b c e f g h = absurd (omega arith)
+six-set (s ∷ t ∷ u ∷ v ∷ x ∷ []) a b c e f g h = absurd (omega arith)
+six-set (s ∷ t ∷ u ∷ v ∷ x ∷ y ∷ []) a b c e f g h = refl
+six-set (s ∷ t ∷ u ∷ v ∷ x ∷ y ∷ z ∷ d) a b c e f g h = absurd (omega arith)

@@ -27,7 +27,7 @@ use Rattle.writer.specs.Answers.{added}
 use Rattle.writer.specs.Block.{blockWords, fixedWords}
 use Rattle.writer.specs.Adding.{valued, illShaped, isFull, isOther, addFaults, addFault, adding}
 use Rattle.writer.specs.Batch.{batchFaults, batchFault}
-use Rattle.writer.specs.Ground.{heldBy, Grounds, Stands, blockFaults, IsStep}
+use Rattle.writer.specs.Ground.{heldBy, Grounds, Stands, blockFaults, IsStep, filled}
 use Rattle.writer.proofs.BlockLaws.{count-variable}
 use Rattle.writer.proofs.Refusals.{can-add}
 use Rattle.writer.proofs.Calls.{Found, place-found, place-done, part-whole-done, part-cut-done}
@@ -110,12 +110,6 @@ module _ {w : Writer} {g : Ground} {h : Held} (line : List ℕ) (s : Stands w g 
   pub place-stands : isVariable (g .block) ≡ false → (p : ℕ) → p ≡ placeOf (h .place) → Found (heldBy w h) line kind vs p 0 (length vs + 1) (length vs + 1) (g .start + p)
   place-stands v p hp = place-found (heldBy w h) line kind vs clear-in (varies-by s v) p (g .start + p) hp (ap (λ (x : ℕ). x + p) (s .grounds .start))
 
-  pub place-laid : isVariable (g .block) ≡ false → (p : ℕ) → p ≡ placeOf (h .place) → (ys : List ℕ) (c : ℕ) → ys ≡ fixedWords (g .mode) kind vs
-      → c ≡ crcOf (h .crc) (take (g .start + p + (length vs + 1) - (g .start + p)) (drop (g .start + p) (putMid (g .start + p) (g .start + p + (length vs + 1) - (g .start + p)) line ys)))
-      → added Finished (moved w (At (p + (length vs + 1))) NoBlock c) (putMid (g .start + p) (g .start + p + (length vs + 1) - (g .start + p)) line ys) ≡ adding (heldBy w h) line kind vs
-  place-laid v p hp ys c e hc =
-      place-done (place-stands v p hp) (varies-by s v) ys c _ (e ∙ ap (λ (m : ℕ). fixedWords m kind vs) (s .grounds .mode)) hc refl
-
   -- ---- a variable line: what there is room for
   pub room-by : isVariable (g .block) ≡ true → (p j : ℕ) → p ≡ placeOf (h .place) → j ≡ laidOf (h .rest) → Room g p j (length vs) kind (length line)
   room-by v p j hp hj =
@@ -162,3 +156,12 @@ module _ {w : Writer} {g : Ground} {h : Held} (line : List ℕ) (s : Stands w g 
     cut-laid less hy =
         part-cut-done (part-stands v p j (g .end - p) hp hj (sym (min-first (g .end - p) (length vs + 7 - j) less))) (varies-by s v) less ys c
         (words-by (g .mode) (g .start + p) (g .end - p) (s .grounds .mode) hy) hc
+
+-- a place of a fixed line, filled
+pub place-step : {g : Ground} {h : Held} (line : List ℕ) (kind : ℕ) (vs : List ℕ) → lowestOf (blockFaults g h kind vs) ≡ 0 → isVariable (g .block) ≡ false
+    → (p : ℕ) → p ≡ placeOf (h .place) → (ys : List ℕ) (c : ℕ) → ys ≡ fixedWords (g .mode) kind vs → c ≡ crcOf (h .crc) ys
+    → (s : Step) → s ≡ filled (p + (length vs + 1)) c
+    → IsStep g h line kind vs s (putMid (g .start + p) (g .start + p + (length vs + 1) - (g .start + p)) line ys)
+place-step {g} {h} line kind vs clear v p hp ys c e hc s is w k =
+    ap (λ (x : Step). added (x .answer) (heldBy w (x .held)) (putMid (g .start + p) (g .start + p + (length vs + 1) - (g .start + p)) line ys)) is
+    ∙ place-done (place-stands line k kind vs clear v p hp) (varies-by k v) ys c _ (e ∙ ap (λ (m : ℕ). fixedWords m kind vs) (k .grounds .mode)) hc refl

@@ -13,7 +13,10 @@ use Rattle.line.specs.Fixed.{sizeOf}
 use Rattle.line.specs.Layout.{payloadAt}
 use Rattle.line.specs.Check.{fitsLength}
 use Rattle.course.specs.Course.{isAt}
+use Rattle.course.specs.declared.Place.the-variants.{At}
 use Rattle.writer.specs.declared.state.Writer.{Writer}
+use Rattle.writer.specs.declared.state.Rest.the-variants.{NoBlock}
+use Rattle.writer.specs.declared.state.Laid.the-variants.{Finished}
 use Rattle.writer.specs.declared.adding.Ground.{Ground}
 use Rattle.writer.specs.declared.adding.Held.{Held}
 use Rattle.writer.specs.declared.adding.Step.{Step}
@@ -60,6 +63,10 @@ blockFaults g h kind vs =
 abbrev pub IsStep : Ground → Held → List ℕ → ℕ → List ℕ → Step → List ℕ → Type 0
 IsStep g h line kind vs s line′ =
     (w : Writer) → Stands w g h (length line) → added (s .answer) (heldBy w (s .held)) line′ ≡ adding (heldBy w h) line kind vs
+
+-- a place of a fixed line is filled
+abbrev pub filled : ℕ → ℕ → Step
+filled next c = record { answer = Finished; held = record { place = At next; rest = NoBlock; crc = c } }
 
 -- how many were finished, why it stopped, and what is held then
 abbrev pub ran : ℕ → Stop → Held → Run

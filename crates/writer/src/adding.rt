@@ -7,7 +7,6 @@ use crate::state::Writer;
 use course::Place;
 use line::check;
 use line::systems;
-use words::crc;
 ghost use mathlib.Core.Path.{_≡_};
 ghost use mathlib.Core.Bool.{true, false};
 ghost use lib.Dec.{ltb};
@@ -19,7 +18,7 @@ ghost use Rattle.writer.specs.Answers.{laidNumbers, added};
 ghost use Rattle.writer.specs.Numbers.{allFits, laidBy};
 ghost use Rattle.writer.specs.Adding.{valued, illShaped, isFull, isOther, addFault, adding};
 ghost use Rattle.writer.specs.Batch.{batchFault};
-ghost use Rattle.writer.specs.Ground.{heldBy, Grounds, Standing, blockFaults, IsStep};
+ghost use Rattle.writer.specs.Ground.{heldBy, Grounds, Standing, blockFaults, IsStep, filled};
 
 // What adding leaves beside the line.
 pub struct Addition {
@@ -182,22 +181,14 @@ pub(crate) fn block_fault(g: Ground, h: Held, kind: u16, values: &[u16]) -> u8
     lists::or_else(!course::is_at(place) | is_other(rest, kind, n), 20, 0)
 }
 
-// The block in a place of a fixed line: all of it fits, because places stand one after another.
-pub(crate) fn lay_place(g: Ground, h: Held, kind: u16, values: &[u16], line: &mut [u16]) -> Step
-    requires { ⌜ Standing g h (length (now line)) × (lowestOf (blockFaults g h kind (now values)) ≡ 0) × (isVariable (g .block) ≡ false) ⌝ }
-    ensures { λ r. ⌜ IsStep g h (now (line .entry)) kind (now (values .entry)) r (now (line .exit)) ⌝ }
+// A place of a fixed line is filled: all of a block fits, because places stand one after another.
+pub(crate) fn placed(next: usize, c: u32) -> Step
+    ensures { λ r. ⌜ r ≡ filled next c ⌝ }
 {
-    let at = h.place;
-    let place = course::place_of(at);
-    let k = values.len() + 1;
-    let a = g.start + place;
-    let e = a + k;
-    block::lay_fixed(g.mode, kind, values, &mut line[a..e]);
-    let c = crc::crc_of(h.crc, &line[a..e]);
     Step {
         answer: Laid::Finished,
         held: Held {
-            place: Place::At(place + k),
+            place: Place::At(next),
             rest: Rest::NoBlock,
             crc: c,
         },
@@ -282,5 +273,11 @@ pub fn add_block(w: Writer, kind: u16, values: &[u16], line: &mut [u16]) -> Addi
     if line::fixed::is_variable(g.block) {
         return told(w, lay_part(g, h, kind, values, line));
     }
-    told(w, lay_place(g, h, kind, values, line))
+    let at = h.place;
+    let place = course::place_of(at);
+    let k = values.len() + 1;
+    let a = g.start + place;
+    let e = a + k;
+    let c = block::lay_place(g.mode, kind, values, h.crc, &mut line[a..e]);
+    told(w, placed(place + k, c))
 }

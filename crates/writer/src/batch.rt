@@ -3,6 +3,7 @@ use crate::adding;
 use crate::adding::Ground;
 use crate::adding::Held;
 use crate::adding::Step;
+use crate::block;
 use crate::state::Laid;
 use crate::state::Writer;
 ghost use mathlib.Core.Path.{_≡_};
@@ -64,7 +65,13 @@ fn lay_entry(g: Ground, h: Held, kind: u16, values: &[u16], line: &mut [u16]) ->
     if line::fixed::is_variable(g.block) {
         return adding::lay_part(g, h, kind, values, line);
     }
-    adding::lay_place(g, h, kind, values, line)
+    let at = h.place;
+    let place = course::place_of(at);
+    let k = values.len() + 1;
+    let a = g.start + place;
+    let e = a + k;
+    let c = block::lay_place(g.mode, kind, values, h.crc, &mut line[a..e]);
+    adding::placed(place + k, c)
 }
 
 fn ended(finished: usize, stop: Stop, held: Held) -> Run

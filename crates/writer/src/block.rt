@@ -20,7 +20,8 @@ fn count_word(n: usize, by: usize) -> u16
     words::forms::byte_word((n / by % 256) as u16)
 }
 
-// The six words before the values, from word j.
+// The six words before the values, from word j. Most often that is all of them: they are written one by one, because what is copied from an array that
+// was just built waits for it.
 fn lay_head(kind: u16, n: usize, j: usize, out: &mut [u16])
     requires { ⌜ j + length (now out) ≤ 6 ⌝ }
     ensures { λ _. ⌜ now (out .exit) ≡ take (length (now (out .entry))) (drop j (separator ∷ byteWord kind ∷ countWords n)) ⌝ }
@@ -30,6 +31,15 @@ fn lay_head(kind: u16, n: usize, j: usize, out: &mut [u16])
     let b1 = count_word(n, 256);
     let b2 = count_word(n, 65536);
     let b3 = count_word(n, 16777216);
+    if out.len() == 6 {
+        out[0] = words::class::SEPARATOR;
+        out[1] = word;
+        out[2] = b0;
+        out[3] = b1;
+        out[4] = b2;
+        out[5] = b3;
+        return;
+    }
     fill::copy_from(&[words::class::SEPARATOR, word, b0, b1, b2, b3], j, out);
 }
 
@@ -75,4 +85,14 @@ pub(crate) fn lay_fixed(mode: u8, kind: u16, values: &[u16], out: &mut [u16])
     let word = words::forms::byte_word(kind);
     fill::copy_in(&[word], &mut out[..1]);
     fill::put_values(mode, values, &mut out[1..]);
+}
+
+// The same, and the CRC taken on over them. Numbers go in and one comes out, because the compiler keeps a function that is called from two places apart, and
+// structs would go by memory.
+pub(crate) fn lay_place(mode: u8, kind: u16, values: &[u16], c: u32, out: &mut [u16]) -> u32
+    requires { ⌜ length (now out) ≡ length (now values) + 1 ⌝ }
+    ensures { λ r. ⌜ (now (out .exit) ≡ fixedWords mode kind (now (values .entry))) × (r ≡ crcOf c (now (out .exit))) ⌝ }
+{
+    lay_fixed(mode, kind, values, out);
+    crc::crc_of(c, out)
 }

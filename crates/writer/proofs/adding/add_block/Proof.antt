@@ -1,13 +1,19 @@
 -- `writer::adding::add_block` meets its contract. Assumes nothing.
 use Rattle.lists.proofs.Needs.{need}
 use mathlib.Core.Path.{_≡_, sym, ap, _∙_}
+use mathlib.Core.Bool.{false}
+use Prim.Native.Nat.{_+_}
+use native.Mathlib.Omega.{arith}
 use lib.ListN.{length}
+use Rattle.lists.specs.Tests.{lowestOf}
+use Rattle.line.specs.Fixed.{isVariable}
 use Rattle.writer.specs.declared.state.Writer.{Writer}
 use Rattle.writer.specs.Adding.{addFault}
-use Rattle.writer.specs.Ground.{Stands}
-use Rattle.writer.proofs.Calls.{add-refused}
+use Rattle.writer.specs.Ground.{Stands, heldBy, blockFaults}
+use Rattle.writer.proofs.FillLaws.{part-whole}
+use Rattle.writer.proofs.Calls.{Found, sizes, add-refused}
 use Rattle.writer.proofs.NumberLaws.{adds-numbered}
-use Rattle.writer.proofs.GroundLaws.{early-fault, stands-in, fault-by, size-by, step-told}
+use Rattle.writer.proofs.GroundLaws.{early-fault, stands-in, fault-by, size-by, step-told, place-stands, place-step}
 use borrow.Author.Needs.{needs}
 use Rattle.writer.proofs.adding.add_block.Statement.{statement}
 use Rattle.writer.proofs.adding.add_block.Tie as tie
@@ -59,25 +65,69 @@ returns-3 c =
     adds-numbered (a .w) (a .line .now) (a .kind) (a .values .now) _
     (step-told (a .line .now) (a .kind) (a .values .now) (l .lay-part .result) _ (stands h) (h .held-in .ensures) (l .lay-part .ensures) _ _ (c .told .ensures .0) (c .told .ensures .1))
 
+-- nothing was refused, and the line is a fixed one
+clear : (q : tie.After-place-of) →
+    let h = q .before .before .before .before .before in
+    let k = h .before .before .before in
+    let a = k .before .before .before .args in
+    lowestOf (blockFaults (k .ask .result .ground) (h .held-in .result) (a .kind) (a .values .now)) ≡ 0
+clear q = let e = q .before .before .before in sym (e .before .block-fault .ensures) ∙ e .if2 .left
+
+fixed : (q : tie.After-place-of) → isVariable (q .before .before .before .before .before .before .before .before .ask .result .ground .block) ≡ false
+fixed q = sym (q .before .before .is-variable .ensures) ∙ q .before .if3 .left
+
+-- the sizes: nothing is laid yet, and all words are laid now
+found : (q : tie.After-place-of) →
+    let h = q .before .before .before .before .before in
+    let k = h .before .before .before in
+    let a = k .before .before .before .args in
+    Found (heldBy (a .w) (h .held-in .result)) (a .line .now) (a .kind) (a .values .now) (q .place-of .result) 0 (length (a .values .now) + 1) (length (a .values .now) + 1)
+    (k .ask .result .ground .start + q .place-of .result)
+found q =
+    let h = q .before .before .before .before .before in
+    let a = h .before .before .before .before .before .before .args in
+    place-stands (a .line .now) (stands h) (a .kind) (a .values .now) (clear q) (fixed q) _ (q .place-of .ensures)
+
+add-a : tie.Need-add-a
+add-a c = let z = sizes (found (c .before)) in omega (arith, z .within, z .short, z .ends)
+
+add-e : tie.Need-add-e
+add-e c = let z = sizes (found (c .before)) in omega (arith, z .within, z .short, z .ends)
+
+mul-lay-place : tie.Need-mul-lay-place
+mul-lay-place c = let z = sizes (found (c .before)) in omega (arith, z .within, z .short, z .ends)
+
+part-lay-place-end : tie.Need-part-lay-place-end
+part-lay-place-end c = let z = sizes (found (c .before)) in omega (arith, z .within, z .short, z .ends)
+
 lay-place-requires : tie.Need-lay-place-requires
 lay-place-requires c κs =
-    let v = c .before .before in
-    let e = v .before in
-    let b = e .before in
-    (record { w = b .before .before .before .before .before .before .before .args .w; stands = stands (b .before) }, sym (b .block-fault .ensures) ∙ e .if2 .left, sym (v .is-variable .ensures) ∙ c .before .if3 .left)
+    let q = c .before .before in
+    let h = q .before .before .before .before .before in
+    part-whole (h .before .before .before .before .before .before .args .line .now) _ _ (sizes (found q) .within)
+
+add-placed : tie.Need-add-placed
+add-placed c = let z = sizes (found (c .before .before .before .before .before)) in omega (arith, z .ends)
 
 returns-4 : tie.Need-returns-4
 returns-4 c =
-    let l = c .before .before .before in
-    let h = l .before .before .before .before .before .before in
+    let d = c .before in
+    let l = d .before .before .before in
+    let q = l .before .before .before in
+    let h = q .before .before .before .before .before in
     let a = h .before .before .before .before .before .before .args in
     adds-numbered (a .w) (a .line .now) (a .kind) (a .values .now) _
-    (step-told (a .line .now) (a .kind) (a .values .now) (l .lay-place .result) _ (stands h) (h .held-in .ensures) (l .lay-place .ensures) _ _ (c .told2 .ensures .0) (c .told2 .ensures .1))
+    (step-told (a .line .now) (a .kind) (a .values .now) (d .placed .result) _ (stands h) (h .held-in .ensures)
+    (place-step (a .line .now) (a .kind) (a .values .now) (clear q) (fixed q) _ (q .place-of .ensures) _ _ (l .lay-place .ensures .0) (l .lay-place .ensures .1) _ (d .placed .ensures))
+    _ _ (c .told2 .ensures .0) (c .told2 .ensures .1))
 
 pub add-block-spec : {M : Type 1} → statement M
 add-block-spec =
     tie.close (tie.spec
     (need tie.Need-ask-requires (λ c κs. search needs)) returns (need tie.Need-held-in-requires (λ c κs. search needs)) block-fault-requires
     returns-2 (need tie.Need-is-variable-requires (λ c κs. search needs)) lay-part-requires (need tie.Need-told-requires (λ c κs. search needs))
-    (need tie.Need-same-length (λ c. search needs)) returns-3 lay-place-requires (need tie.Need-told-requires-2 (λ c κs. search needs))
+    (need tie.Need-same-length (λ c. search needs)) returns-3 (need tie.Need-place-of-requires (λ c κs. search needs))
+    (need tie.Need-add-k (λ c. search needs)) add-a add-e mul-lay-place (need tie.Need-sub-lay-place (λ c. search needs))
+    (need tie.Need-part-lay-place-start (λ c. search needs)) part-lay-place-end lay-place-requires add-placed
+    (need tie.Need-placed-requires (λ c κs. search needs)) (need tie.Need-told-requires-2 (λ c κs. search needs))
     (need tie.Need-same-length-2 (λ c. search needs)) returns-4)
