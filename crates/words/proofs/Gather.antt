@@ -18,7 +18,8 @@ use Rattle.words.specs.Shifts.{quiet}
 use Rattle.words.specs.Folds.{still, Folds, Gathered, held, mixed}
 use Rattle.words.proofs.Xor.{xor-assoc, xor-swap, xor-cross, xor-back}
 use Rattle.words.proofs.CrcLaws.{crc-none, crc-append, crc-linear, crc-lt}
-use Rattle.words.proofs.Shifts.{packed, crc-packed}
+use Rattle.words.proofs.Shifts.{crc-packed}
+use Rattle.words.specs.Shifts.{packed}
 use Rattle.words.proofs.Folds.{crc-from, still-linear, together}
 
 -- ---- one word more, and four at once

@@ -3,17 +3,17 @@
 -- Assumes nothing.
 use mathlib.Core.Path.{_≡_, refl, sym, ap, ap₂, _∙_, subst}
 use mathlib.Core.List.{List, [], _∷_, _++_}
-use Prim.Native.Nat.{ℕ, zero, suc, _+_, _*_, _/_, _%_, _^_, _<_}
-use native.Mathlib.Nat.{mul-one, mul-comm, zero-add, suc-add, div-one, mod-lt, mod-mod, mod-eq-of-lt, div-eq-of-lt}
+use Prim.Native.Nat.{ℕ, zero, suc, _+_, _-_, _*_, _/_, _%_, _^_, _<_, _≤_}
+use native.Mathlib.Nat.{mul-one, mul-comm, zero-add, suc-add, div-one, mod-lt, mod-mod, mod-eq-of-lt, div-eq-of-lt, lt-of-lt-of-le}
 use native.Mathlib.Numerals.{add-one, one-add}
 use native.Mathlib.Omega.{arith}
 use lib.Dec.{lit<, T}
 use lib.Arith.{lt-one, digits-lt, digits-div, digits-mod}
-use lib.Pow.{pow-pos, pow-add, split, shr-lt, shr-shr, field, mod-mod-pow}
-use lib.Bits.{bitXor, xor-comm, xor-zero-r, xor-shr, xor-mod, xor-shifted, shifted-half, shifted-even}
-use lib.ListN.{length, getD, drop, drop-of-length-le, replicate}
+use lib.Pow.{pow-pos, pow-add, pow-mono, split, shl-lt, shr-lt, shr-shr, field, mod-mod-pow}
+use lib.Bits.{bitXor, xor-lt, xor-comm, xor-zero-r, xor-shr, xor-mod, xor-shifted, shifted-half, shifted-even}
+use lib.ListN.{length, getD, drop, length-drop, drop-of-length-le, replicate}
 use Rattle.lists.proofs.Loops.{next-drop}
-use Rattle.words.specs.Shifts.{fed, quietBit, quiet}
+use Rattle.words.specs.Shifts.{fed, quietBit, quiet, packed}
 use Rattle.words.specs.Crc.{lowBits, bitsOf, crcBit, crcBits, crcOf, taps}
 use Rattle.words.proofs.Xor.{odd-lt, xor-half, xor-odd, xor-assoc, xor-swap, xor-times, Linear, linear-self, linear-shl, linear-shr, linear-mod, linear-xor, agree-below}
 use Rattle.words.proofs.CrcLaws.{step-lt}
@@ -121,14 +121,10 @@ sixty-is x h =
     (linear-xor (linear-xor (linear-shr 42 sixty-linear) (linear-shr 46 sixty-linear)) (linear-shr 47 sixty-linear))
     (quiet-linear 60) 60 tt x h
 
--- words side by side in one number, the first lowest
+-- the bits of words
 abbrev pub tens : List ℕ → ℕ
 tens [] = 0
 tens (w ∷ ws) = 10 + tens ws
-
-abbrev pub packed : List ℕ → ℕ
-packed [] = 0
-packed (w ∷ ws) = packed ws * 1024 + w % 1024
 
 packed-lt : (ws : List ℕ) → packed ws < 2 ^ tens ws
 packed-lt [] = lit< tt
@@ -157,7 +153,7 @@ unfolding crcOf
 crc-packed c ws r = ap (crcBits c) (packed-bits ws) ∙ fold-in (tens ws) c (packed ws) r (packed-lt ws)
 
 -- a list of words from place i on, side by side
-packed-next : (s : List ℕ) (i : ℕ) → i < length s → packed (drop i s) ≡ packed (drop (i + 1) s) * 1024 + getD s i 0 % 1024
+pub packed-next : (s : List ℕ) (i : ℕ) → i < length s → packed (drop i s) ≡ packed (drop (i + 1) s) * 1024 + getD s i 0 % 1024
 packed-next s i h = ap packed (next-drop s i h)
 
 tens-length : (s : List ℕ) → tens s ≡ 10 * length s
@@ -180,6 +176,54 @@ module _ (c : ℕ) (s : List ℕ) (below : c < 2 ^ 18) (six : length s ≡ 6) (t
 
   pub six-words : quiet 60 (bitXor c (((t5 * 1024 + t4) * 1024 + t3) * 1073741824 + ((t2 * 1024 + t1) * 1024 + t0))) ≡ crcOf c s
   six-words = ap (λ (p : ℕ). quiet 60 (bitXor c p)) joined ∙ ap (λ (n : ℕ). quiet n (bitXor c (packed s))) (sym (tens-length s ∙ ap (λ (n : ℕ). 10 * n) six)) ∙ sym (crc-packed c s below)
+
+-- ---- less than six words: bits that are 0 under them are only shifted out
+quiet-zero : (n : ℕ) → quiet n 0 ≡ 0
+unfolding quiet quietBit
+quiet-zero zero = refl
+quiet-zero (suc n) = quiet-zero n
+
+shifted-out : (m x : ℕ) → quiet m (x * 2 ^ m) ≡ x
+shifted-out m x = ap (quiet m) (sym (xor-zero-r (x * 2 ^ m))) ∙ high-bits m x 0 ∙ ap (bitXor x) (quiet-zero m) ∙ xor-zero-r x
+
+quiet-more : (m n x : ℕ) → quiet (m + n) x ≡ quiet n (quiet m x)
+unfolding quiet
+quiet-more zero n x = ap (λ (k : ℕ). quiet k x) (zero-add n)
+quiet-more (suc m) n x = ap (λ (k : ℕ). quiet k x) (suc-add m n) ∙ quiet-more m n (quietBit x)
+
+pub packed-small : (s : List ℕ) (i : ℕ) → length s ≤ 6 → 0 < i → i ≤ length s → packed (drop i s) < 2 ^ 50
+packed-small s i h p q =
+    lt-of-lt-of-le (packed-lt (drop i s)) (pow-mono {i = tens (drop i s)} {j = 50} (omega (arith, tens-length (drop i s), length-drop i s)))
+
+module _ (c : ℕ) (s : List ℕ) (below : c < 2 ^ 18) (some : 2 ≤ length s) (few : length s ≤ 6) where
+  up : ℕ
+  up = 60 - 10 * length s
+
+  long : tens s + up ≡ 60
+  unfolding up
+  long = let e = tens-length s in omega arith
+
+  both-lt : bitXor c (packed s) < 2 ^ tens s
+  both-lt = xor-lt (tens s) c (packed s) (lt-of-lt-of-le below (pow-mono {i = 18} {j = tens s} (omega (arith, tens-length s)))) (packed-lt s)
+
+  pub few-fit : bitXor c (packed s) * 2 ^ (60 - 10 * length s) < 2 ^ 60
+  unfolding up
+  few-fit = subst (λ (n : ℕ). bitXor c (packed s) * 2 ^ (60 - 10 * length s) < 2 ^ n) long (shl-lt (tens s) (60 - 10 * length s) both-lt)
+
+  -- nothing of it is above 64 bits
+  pub few-shifted : (z : ℕ) → z ≡ packed s → bitXor c z * 2 ^ (60 - 10 * length s) % 2 ^ 64 ≡ bitXor c (packed s) * 2 ^ (60 - 10 * length s)
+  few-shifted z e =
+      ap (λ (x : ℕ). bitXor c x * 2 ^ (60 - 10 * length s) % 2 ^ 64) e ∙ mod-eq-of-lt (lt-of-lt-of-le few-fit (pow-mono {i = 60} {j = 64} (omega arith)))
+
+  pub few-words : quiet 60 (bitXor c (packed s) * 2 ^ (60 - 10 * length s)) ≡ crcOf c s
+  unfolding up
+  few-words =
+      let m = 60 - 10 * length s in
+      let e : m + tens s ≡ 60 = omega (arith, long) in
+      ap (λ (n : ℕ). quiet n (bitXor c (packed s) * 2 ^ m)) (sym e)
+      ∙ quiet-more m (tens s) (bitXor c (packed s) * 2 ^ m)
+      ∙ ap (quiet (tens s)) (shifted-out m (bitXor c (packed s)))
+      ∙ sym (crc-packed c s below)
 
 -- ---- six words of filler
 pub six-fillers : (c : ℕ) → c < 2 ^ 18 → quiet 60 (bitXor c 0x802008020080200) ≡ crcOf c (replicate 6 0x200)

@@ -5,7 +5,7 @@ use crate::forms;
 ghost use mathlib.Core.Path.{_≡_};
 ghost use Prim.Native.Nat.{_+_, _-_, _*_, _%_, _^_, _<_, _≤_};
 ghost use lib.ListN.{length, replicate, drop};
-ghost use Rattle.words.specs.Shifts.{fed, quiet};
+ghost use Rattle.words.specs.Shifts.{fed, quiet, packed};
 ghost use Rattle.words.specs.Folds.{Folds, Gathered, held, mixed};
 ghost use Rattle.words.specs.Crc.{crcBits, crcOf, registerWords, lowBits};
 
@@ -71,6 +71,41 @@ fn crc_each(c: u32, s: &[u16]) -> u32
     x
 }
 
+// The words side by side in one number, the first lowest.
+fn beside(s: &[u16]) -> u64
+    requires { ⌜ length (now s) ≤ 6 ⌝ }
+    ensures { λ r. ⌜ r ≡ packed (now (s .entry)) ⌝ }
+{
+    let mut z = 0u64;
+    let mut i = s.len();
+    while 0 < i {
+        i -= 1;
+        z = z * 1024 + ten(s[i]);
+    }
+    z
+}
+
+// The register after two to five words at one step: under them stand so many bits that are 0 that there are sixty.
+fn crc_few(c: u32, s: &[u16]) -> u32
+    requires { ⌜ (c < 2 ^ 18) × ((2 ≤ length (now s)) × (length (now s) ≤ 6)) ⌝ }
+    ensures { λ r. ⌜ r ≡ crcOf c (now (s .entry)) ⌝ }
+{
+    let z = (c as u64) ^ beside(s);
+    let up = (60 - 10 * s.len()) as u32;
+    after_sixty(z << up)
+}
+
+// The register after less than six words.
+fn crc_rest(c: u32, s: &[u16]) -> u32
+    requires { ⌜ (c < 2 ^ 18) × (length (now s) ≤ 6) ⌝ }
+    ensures { λ r. ⌜ r ≡ crcOf c (now (s .entry)) ⌝ }
+{
+    if s.len() < 2 {
+        return crc_each(c, s);
+    }
+    crc_few(c, s)
+}
+
 // The register after the words: six at a time, then what is left.
 fn crc_short(c: u32, s: &[u16]) -> u32
     requires { ⌜ c < 2 ^ 18 ⌝ }
@@ -83,7 +118,7 @@ fn crc_short(c: u32, s: &[u16]) -> u32
         x = crc_six(x, &s[i..e]);
         i = e;
     }
-    crc_each(x, &s[i..])
+    crc_rest(x, &s[i..])
 }
 
 // The words of s go behind the first z words of f, each xored with those that stand z, z - a and z - b places before it.

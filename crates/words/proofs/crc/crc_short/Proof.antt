@@ -2,8 +2,9 @@
 use Rattle.lists.proofs.Needs.{need}
 use mathlib.Core.Path.{_≡_, refl}
 use Prim.Native.Nat.{_-_, _^_, _<_, _≤_}
+use native.Mathlib.Omega.{arith}
 use denote.Ref.{now}
-use lib.ListN.{length, drop}
+use lib.ListN.{length, drop, length-take}
 use Rattle.words.specs.Crc.{crcOf}
 use Rattle.words.proofs.CrcLaws.{crc-turn, crc-rest}
 use borrow.Author.Needs.{needs}
@@ -25,11 +26,17 @@ loop-again c =
     let s = now (c .before .before .before .before .before .args .s) in
     (search needs, crc-turn _ (l .x) _ (l .i) 6 s (c .crc-six .ensures) (l .inv .1 .1))
 
+crc-rest-requires : tie.Need-crc-rest-requires Inv-loop μ-loop
+crc-rest-requires c κs =
+    let l = c .before .before .loop in
+    let s = now (c .before .before .before .before .args .s) in
+    (l .inv .1 .0, omega (arith, length-take (length s - l .i) (drop (l .i) s), c .before .loop-test .left))
+
 returns : tie.Need-returns Inv-loop μ-loop
 returns c =
     let l = c .before .before .before .loop in
     let s = now (c .before .before .before .before .before .args .s) in
-    crc-rest _ (l .x) _ (l .i) s (c .crc-each .ensures) (l .inv .1 .1)
+    crc-rest _ (l .x) _ (l .i) s (c .crc-rest .ensures) (l .inv .1 .1)
 
 pub crc-short-spec : {M : Type 1} → statement M
 crc-short-spec =
@@ -38,6 +45,6 @@ crc-short-spec =
     (need (tie.Need-mul-crc-six Inv-loop μ-loop) (λ c. search needs)) (need (tie.Need-sub-crc-six Inv-loop μ-loop) (λ c. search needs))
     (need (tie.Need-part-crc-six-start Inv-loop μ-loop) (λ c. search needs)) (need (tie.Need-part-crc-six-end Inv-loop μ-loop) (λ c. search needs))
     (need (tie.Need-crc-six-requires Inv-loop μ-loop) (λ c κs. search needs)) (need (tie.Need-loop-less Inv-loop μ-loop) (λ c. search needs)) loop-again
-    (need (tie.Need-mul-crc-each Inv-loop μ-loop) (λ c. search needs)) (need (tie.Need-sub-crc-each Inv-loop μ-loop) (λ c. search needs))
-    (need (tie.Need-part-crc-each-start Inv-loop μ-loop) (λ c. search needs)) (need (tie.Need-part-crc-each-end Inv-loop μ-loop) (λ c. search needs))
-    (need (tie.Need-crc-each-requires Inv-loop μ-loop) (λ c κs. search needs)) returns)
+    (need (tie.Need-mul-crc-rest Inv-loop μ-loop) (λ c. search needs)) (need (tie.Need-sub-crc-rest Inv-loop μ-loop) (λ c. search needs))
+    (need (tie.Need-part-crc-rest-start Inv-loop μ-loop) (λ c. search needs)) (need (tie.Need-part-crc-rest-end Inv-loop μ-loop) (λ c. search needs))
+    crc-rest-requires returns)
