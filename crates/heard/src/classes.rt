@@ -3,6 +3,7 @@ use crate::rows;
 use crate::steps;
 use words::class;
 use words::class::Class;
+use words::forms;
 
 // The digit of a class.
 fn digit_of(c: Class) -> u8 {
@@ -16,11 +17,31 @@ fn digit_of(c: Class) -> u8 {
     }
 }
 
+// The same by the forms, 100h and the two codes, with no table.
+fn digit_by_form(w: u16) -> u8 {
+    if forms::is_byte(w) {
+        return b'1';
+    }
+    if w == class::NULL_WORD {
+        return b'6';
+    }
+    if forms::is_data(w) {
+        return b'2';
+    }
+    if w == class::SEPARATOR {
+        return b'3';
+    }
+    if w == class::END_CODE {
+        return b'4';
+    }
+    b'5'
+}
+
 // The digit of a number's class, or x where the table and the forms differ.
 fn digit_at(n: u64) -> u8 {
     let w = (n % 65536) as u16;
     let a = digit_of(class::class_of(w));
-    if a != digit_of(class::class_by_form(w)) {
+    if a != digit_by_form(w) {
         return b'x';
     }
     a

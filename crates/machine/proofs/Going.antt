@@ -17,7 +17,9 @@ use Rattle.machine.specs.Machine.{stepOf}
 use Rattle.machine.specs.Walk.{Walk, walkedTo, past, isNothing, collectedOf, stored, walkOf}
 use Rattle.machine.specs.Runs.{takenBy, ranPhase, ranRoom}
 use Rattle.machine.proofs.WalkLaws.{past-zero, past-past, word-goes, word-stops}
+use Rattle.machine.specs.Heads.{headTaken, headPhase}
 use Rattle.machine.proofs.RunLaws.{run-taken, taken-within}
+use Rattle.machine.proofs.HeadLaws.{head-within, head-led}
 
 pub record Going (mode : ℕ) (words : List ℕ) (start : Walk) (room : List ℕ) (p : Phase) (i : ℕ) : Type 0 where
   pub inside : i ≤ length words
@@ -31,18 +33,27 @@ pub rest-lent : (i : ℕ) (words : List ℕ) → take (length words - i) (drop i
 rest-lent i words = take-all (length words - i) (drop i words) (rw (length-drop i words) (omega arith))
 
 module _ (mode : ℕ) (words : List ℕ) (start : Walk) (room : List ℕ) (p : Phase) (i : ℕ) (g : Going mode words start room p i) where
+  -- k words taken at once
+  going-by : (k : ℕ) (next : List ℕ) (q : Phase) → k ≤ length (drop i words) → walkOf mode p (drop i words) room ≡ past k (walkOf mode q (drop k (drop i words)) next)
+      → Going mode words start next q (i + k)
+  going-by k next q few led =
+      record {
+        inside = omega (arith, few, length-drop i words, g .inside);
+        same =
+            sym (past-past i k (walkOf mode q (drop (i + k) words) next))
+            ∙ ap (λ (x : Walk). past i x) (rw (sym (drop-drop k i words)) (sym led))
+            ∙ g .same;
+      }
+
   -- a run
   pub going-run : (k : ℕ) (next : List ℕ) (q : Phase) → k ≡ takenBy mode p (length room) (drop i words) → next ≡ ranRoom mode p (drop i words) k room → q ≡ ranPhase p k
       → Going mode words start next q (i + k)
   going-run k next q is put to =
-      let few : k ≤ length words - i = rw (sym (length-drop i words)) (rw is (taken-within mode p (length room) (drop i words))) in
-      record {
-        inside = omega (arith, few, g .inside);
-        same =
-            sym (past-past i k (walkOf mode q (drop (i + k) words) next))
-            ∙ ap (λ (x : Walk). past i x) (rw (put, to, sym (drop-drop k i words)) (sym (run-taken mode p (drop i words) room k is)))
-            ∙ g .same;
-      }
+      going-by k next q (rw is (taken-within mode p (length room) (drop i words))) (rw (put, to) (run-taken mode p (drop i words) room k is))
+
+  -- a head, or none
+  pub going-head : (k : ℕ) (q : Phase) → k ≡ headTaken (length room) p (drop i words) → q ≡ headPhase (length room) p (drop i words) → Going mode words start room q (i + k)
+  going-head k q is to = going-by k room q (rw is (head-within (length room) p (drop i words))) (rw (is, to) (head-led mode p (drop i words) room))
 
   -- the words' end
   pub going-end : length words ≤ i → walkedTo p Nothing i room ≡ start

@@ -103,6 +103,41 @@ null-out b ws i h = or-none b ∙ sym (ap (λ (l : List ℕ). b || hasNull l) (d
     or-none true = refl
     or-none false = refl
 
+-- four words at once
+null-step : (ws : List ℕ) (i j : ℕ) → j ≡ i + 1 → i < length ws → hasNull (drop i ws) ≡ (isNull (classOf (getD ws i 0)) || hasNull (drop j ws))
+unfolding hasNull
+null-step ws i j e h = ap hasNull (next-drop ws i h) ∙ ap (λ (k : ℕ). isNull (classOf (getD ws i 0)) || hasNull (drop k ws)) (sym e)
+
+pub null-front : (ws : List ℕ) (i : ℕ) → i + 4 ≤ length ws
+    → hasNull (drop i ws) ≡ (hasNull (getD ws i 0 ∷ getD ws (i + 1) 0 ∷ getD ws (i + 2) 0 ∷ getD ws (i + 3) 0 ∷ []) || hasNull (drop (i + 4) ws))
+unfolding hasNull
+null-front ws i h =
+    let at : ℕ → Bool = λ k. isNull (classOf (getD ws k 0)) in
+    null-step ws i (i + 1) refl (omega (arith, h))
+    ∙ ap (λ (x : Bool). at i || x) (null-step ws (i + 1) (i + 2) (omega arith) (omega (arith, h))
+    ∙ ap (λ (x : Bool). at (i + 1) || x) (null-step ws (i + 2) (i + 3) (omega arith) (omega (arith, h))
+    ∙ ap (λ (x : Bool). at (i + 2) || x) (null-step ws (i + 3) (i + 4) (omega arith) (omega (arith, h)))))
+    ∙ grouped (at i) (at (i + 1)) (at (i + 2)) (at (i + 3)) (hasNull (drop (i + 4) ws))
+  where
+    grouped : (a b c d x : Bool) → (a || (b || (c || (d || x)))) ≡ ((a || (b || (c || (d || false)))) || x)
+    grouped true b c d x = refl
+    grouped false true c d x = refl
+    grouped false false true d x = refl
+    grouped false false false true x = refl
+    grouped false false false false x = refl
+
+pub null-four : (p q r s : Bool) (a b c d : ℕ) → p ≡ isNull (classOf a) → q ≡ isNull (classOf b) → r ≡ isNull (classOf c) → s ≡ isNull (classOf d)
+    → ((p || q) || (r || s)) ≡ hasNull (a ∷ b ∷ c ∷ d ∷ [])
+unfolding hasNull
+null-four p q r s a b c d ep eq er es = rw (ep, eq, er, es) (paired (isNull (classOf a)) (isNull (classOf b)) (isNull (classOf c)) (isNull (classOf d)))
+  where
+    paired : (a b c d : Bool) → ((a || b) || (c || d)) ≡ (a || (b || (c || (d || false))))
+    paired true b c d = refl
+    paired false true c d = refl
+    paired false false true d = refl
+    paired false false false true = refl
+    paired false false false false = refl
+
 -- the values of a block, laid into the first n words of the room
 pub room-whole : (met : Met) (k n : ℕ) (f : ℕ → ℕ) (ws room xs : List ℕ) → met ≡ Whole k n → xs ≡ map f ws → xs ++ drop (length ws) room ≡ placeRoom met (map f ws) room
 room-whole met k n f ws room xs is e =
@@ -179,6 +214,10 @@ module _ (mode : ℕ) (p : Phase) (size : ℕ) (one : 1 ≤ size) where
   turns-end m i ws room r whole none e inv =
       ap₂ (walkedTo p Nothing) (sym (add-zero i)) e ∙ ap (λ (n : ℕ). past i (walkPlaces mode p (placesIn size n (drop i ws)) room)) (sym none) ∙ inv
 
+-- what is met and how many words are taken, by other names
+pub walked-as : (p : Phase) (m n : Met) (j k : ℕ) (room : List ℕ) → m ≡ n → j ≡ k → walkedTo p m j room ≡ walkedTo p n k room
+walked-as p m n j k room e f = ap₂ (λ (x : Met) (i : ℕ). walkedTo p x i room) e f
+
 -- the walk over whole places is the one that the tests let through
 pub fixed-none : (mode : ℕ) (p : Phase) (size : ℕ) (ws room : List ℕ) → (eqb size 0 || ltb (length room) (size - 1)) ≡ true → walkedTo p Nothing 0 room ≡ walkFixed mode p size ws room
 unfolding walkFixed
@@ -188,6 +227,12 @@ pub fixed-walk : (mode : ℕ) (p : Phase) (size : ℕ) (ws room : List ℕ) → 
     → walkFixed mode p size ws room ≡ walkPlaces mode p (placesIn size (length ws / size) ws) room
 unfolding walkFixed
 fixed-walk mode p size ws room one fits = pick-false _ _ (false-or (ne-eqb size 0 (λ e. omega arith)) (le-ltb (length room) (size - 1) fits))
+
+-- fewer words than one place
+pub fixed-few : (mode : ℕ) (p : Phase) (size : ℕ) (ws room : List ℕ) → 1 ≤ size → size - 1 ≤ length room → length ws < size → walkedTo p Nothing 0 room ≡ walkFixed mode p size ws room
+unfolding walkPlaces
+fixed-few mode p size ws room one fits few =
+    sym (fixed-walk mode p size ws room one fits ∙ ap (λ (n : ℕ). walkPlaces mode p (placesIn size n ws) room) (div-eq-of-lt few))
 
 pub fixed-fits : (size long : ℕ) → (eqb size 0 || ltb long (size - 1)) ≡ false → (1 ≤ size) × (size - 1 ≤ long)
 fixed-fits size long e =

@@ -7,18 +7,18 @@ use Prim.Native.Nat.{ℕ, zero, suc, _+_, _-_, _≤_, _<_, min}
 use native.Mathlib.Nat.{add-zero, add-assoc}
 use native.Mathlib.Numerals.{add-one}
 use native.Mathlib.Omega.{arith}
-use lib.Dec.{T, eqb, leb, ltb}
-use lib.ListN.{length, getD, take, drop, set, length-set, length-take, length-drop, drop-of-length-le}
-use lib.Seq.{length-take-le, take-suc-set, drop-set-lt, append-snoc, paste, paste-zero}
+use lib.Dec.{T, eqb, leb}
+use lib.ListN.{length, getD, take, drop, set, length-set, length-drop, length-map, take-append-drop, drop-of-length-le}
+use lib.Seq.{length-take-le, take-all, drop-drop, take-suc-set, drop-set-lt, append-snoc, paste, paste-zero}
 use borrow.Rule.Slice.PartMut.{putMid}
-use borrow.Author.Tests.{lt-leb, lt-ltb, ltb-true, ne-eqb}
+use borrow.Author.Tests.{lt-leb, lt-ltb, not-true}
 use Rattle.lists.specs.Tests.{pick}
-use Rattle.lists.proofs.Tests.{pick-true, pick-false, or-false, false-or, both-true, and-none}
+use Rattle.lists.specs.Lists.{each}
+use Rattle.lists.proofs.Tests.{pick-true, pick-false, or-false, both-true, and-none}
 use Rattle.lists.proofs.Lists.{map-part}
 use Rattle.lists.proofs.Loops.{next-drop, mid-paste}
 use Rattle.words.specs.Modes.{valueOf}
-use Rattle.words.specs.Class.{classOf, separator, endCode, nullWord, isCode, isNull}
-use Rattle.words.proofs.ClassLaws.{code-class, null-class}
+use Rattle.words.specs.Class.{classOf, isCode, isNull}
 use Rattle.words.specs.declared.class.Class.{Class}
 use Rattle.words.specs.declared.class.Class.the-variants.{Byte, Other, Separator, Ending, Illegal, Null}
 use Rattle.machine.specs.declared.phase.Mark.{Mark}
@@ -28,19 +28,10 @@ use Rattle.machine.specs.declared.step.Met.the-variants.{Nothing}
 use Rattle.machine.specs.declared.step.Step.{Step}
 use Rattle.machine.specs.Machine.{on, idleStep, valueStep, dataStep, stepOf}
 use Rattle.machine.specs.Walk.{Walk, past, stored, walkOf}
-use Rattle.machine.specs.Runs.{stopsBy, runOf, limitOf, takenBy, ranPhase, ranRoom}
+use Rattle.machine.specs.Runs.{stopsBy, runOf, limitOf, mostBy, takenBy, ranPhase, ranRoom}
 use Rattle.machine.proofs.WalkLaws.{past-zero, past-past, word-goes}
 
 -- ---- where a run ends
--- no run ends between 100h and 309h
-pub between-goes : (mode w : ℕ) → (ltb nullWord w && ltb w separator) ≡ true → stopsBy mode w ≡ false
-between-goes mode w e =
-    let b = both-true (ltb nullWord w) (ltb w separator) e in
-    let low = ltb-true nullWord w (b .0) in
-    let high = ltb-true w separator (b .1) in
-    false-or (sym (code-class w) ∙ false-or (ne-eqb w separator (λ z. omega (arith, z))) (ne-eqb w endCode (λ z. omega (arith, z))))
-    (and-none (eqb mode 8) (isNull (classOf w)) (sym (null-class w) ∙ ne-eqb w nullWord (λ z. omega (arith, z))))
-
 pub run-code : (mode w : ℕ) (ws : List ℕ) → stopsBy mode w ≡ true → runOf mode (w ∷ ws) ≡ 0
 unfolding runOf
 run-code mode w ws e = pick-true _ _ e
@@ -78,7 +69,7 @@ run-of-part mode zero ws = (omega arith, omega arith)
 run-of-part mode (suc n) [] = (omega arith, omega arith)
 run-of-part mode (suc n) (w ∷ ws) = run-by (stopsBy mode w) n (runOf mode (take n ws)) (runOf mode ws) (run-of-part mode n ws)
 
-run-long : (mode : ℕ) (ws : List ℕ) → runOf mode ws ≤ length ws
+pub run-long : (mode : ℕ) (ws : List ℕ) → runOf mode ws ≤ length ws
 unfolding runOf
 run-long mode [] = omega arith
 run-long mode (w ∷ ws) = long-by (stopsBy mode w) (runOf mode ws) (length ws) (run-long mode ws)
@@ -185,12 +176,16 @@ data-run mode k n (suc j) m (w ∷ ws) room h s =
     (ap₂ (λ (i : ℕ) (r : List ℕ). walkOf mode (Data k n i) (drop j ws) r) (add-assoc m 1 j ∙ ap (λ (i : ℕ). m + i) (one-more j)) (paste-behind room (map (valueOf mode) ws) m v j (has-space (length room) n m more .0)))
 
 -- ---- a run taken at once
-none : (mode : ℕ) (p : Phase) (ws room : List ℕ) (k : ℕ) → k ≡ 0 → walkOf mode p ws room ≡ past k (walkOf mode p (drop k ws) room)
-none mode p ws room k e = rw e (sym (past-zero (walkOf mode p ws room)))
+no-run : (mode k : ℕ) → k ≡ runOf mode [] → k ≡ 0
+unfolding runOf
+no-run mode k e = e
+
+none : (mode : ℕ) (p : Phase) (ws room : List ℕ) (k : ℕ) → k ≡ runOf mode [] → walkOf mode p ws room ≡ past k (walkOf mode p (drop k ws) room)
+none mode p ws room k e = rw (no-run mode k e) (sym (past-zero (walkOf mode p ws room)))
 
 pub run-taken : (mode : ℕ) (p : Phase) (ws room : List ℕ) (k : ℕ) → k ≡ takenBy mode p (length room) ws
     → walkOf mode p ws room ≡ past k (walkOf mode (ranPhase p k) (drop k ws) (ranRoom mode p ws k room))
-run-taken mode Idle ws room k e = idle-run mode k ws room (omega (arith, e))
+run-taken mode Idle ws room k e = idle-run mode k ws room (omega (arith, e, run-of-part mode (length ws) ws .0))
 run-taken mode Kind ws room k e = none mode Kind ws room k e
 run-taken mode (First t) ws room k e = none mode (First t) ws room k e
 run-taken mode (Second t a) ws room k e = none mode (Second t a) ws room k e
@@ -211,16 +206,41 @@ pub run-out : (mode : ℕ) (ws : List ℕ) (i : ℕ) → length ws ≤ i → i �
 unfolding runOf
 run-out mode ws i h = let r = ap (runOf mode) (drop-of-length-le ws h) in omega (arith, r)
 
+-- ---- many words at once: no run ends among them
+run-through : (mode : ℕ) (xs ys : List ℕ) → each (λ w. not (stopsBy mode w)) xs ≡ true → runOf mode (xs ++ ys) ≡ length xs + runOf mode ys
+run-through mode [] ys e = omega arith
+run-through mode (x ∷ xs) ys e =
+    let b = both-true (not (stopsBy mode x)) (each (λ w. not (stopsBy mode w)) xs) e in
+    omega (arith, run-word mode x (xs ++ ys) (not-true _ (b .0)), run-through mode xs ys (b .1))
+
+pub run-chunk : (mode : ℕ) (ws : List ℕ) (i n : ℕ) → i + n ≤ length ws → each (λ w. not (stopsBy mode w)) (take (i + n - i) (drop i ws)) ≡ true
+    → i + n + runOf mode (drop (i + n) ws) ≡ i + runOf mode (drop i ws)
+run-chunk mode ws i n h e =
+    let k : i + n - i ≡ n = omega arith in
+    let all = rw k at e in
+    let long : length (take n (drop i ws)) ≡ n = length-take-le n (drop i ws) (rw (length-drop i ws) (omega arith)) in
+    let r = ap (runOf mode) (sym (take-append-drop n (drop i ws))) ∙ run-through mode (take n (drop i ws)) (drop n (drop i ws)) all in
+    let d = ap (runOf mode) (drop-drop n i ws) in
+    omega (arith, r, d, long)
+
+-- one search behind another
+pub run-behind : (mode : ℕ) (ws : List ℕ) (a b n : ℕ) → a + runOf mode (drop a ws) ≡ n → b + runOf mode (drop b (drop a ws)) ≡ runOf mode (drop a ws)
+    → a + b + runOf mode (drop (a + b) ws) ≡ n
+run-behind mode ws a b n e f = let d = ap (runOf mode) (drop-drop b a ws) in omega (arith, e, f, d)
+
 -- ---- sizes
 -- what a phase takes are words that there are, and they fit into the room behind those collected
+pub most-within : (p : Phase) (room long : ℕ) → mostBy p room long ≤ long
+most-within Idle room long = omega arith
+most-within Kind room long = omega arith
+most-within (First t) room long = omega arith
+most-within (Second t a) room long = omega arith
+most-within (Third t a b) room long = omega arith
+most-within (Fourth t a b c) room long = omega arith
+most-within (Data t n m) room long = omega arith
+
 pub taken-within : (mode : ℕ) (p : Phase) (room : ℕ) (ws : List ℕ) → takenBy mode p room ws ≤ length ws
-taken-within mode Idle room ws = run-long mode ws
-taken-within mode Kind room ws = omega arith
-taken-within mode (First t) room ws = omega arith
-taken-within mode (Second t a) room ws = omega arith
-taken-within mode (Third t a b) room ws = omega arith
-taken-within mode (Fourth t a b c) room ws = omega arith
-taken-within mode (Data t n m) room ws = let x = run-of-part mode (min (length ws) (limitOf room n - m)) ws in omega (arith, x .1)
+taken-within mode p room ws = omega (arith, run-of-part mode (mostBy p room (length ws)) ws .1, most-within p room (length ws))
 
 end-in-room : (room n : ℕ) → limitOf room n ≤ room
 unfolding limitOf pick
@@ -245,10 +265,16 @@ data-small mode t n m room ws k bound e low high =
 pub front-long : (k : ℕ) (l : List ℕ) → k ≤ length l → k ≡ length (take k l)
 front-long k l h = sym (length-take-le k l h)
 
--- k elements behind the first m of them
-pub same-long : (k m : ℕ) (ws room : List ℕ) → m + k ≤ length room → k ≤ length ws → length (take (m + k - m) (drop m room)) ≡ length (take k ws)
-same-long k m ws room h g = simp (length-take, length-drop) (omega arith)
+-- the room with the values of words behind its first m
+pub put-mid : (mode m : ℕ) (ws room ys : List ℕ) → ys ≡ map (valueOf mode) ws → putMid m (m + length ws - m) room ys ≡ paste room m (map (valueOf mode) ws) (length ws)
+put-mid mode m ws room ys e =
+    mid-paste room (map (valueOf mode) ws) ys m (length ws) (e ∙ sym (take-all (length ws) (map (valueOf mode) ws) (omega (arith, length-map ws (valueOf mode)))))
 
--- and the room with them changed
-pub ran-mid : (mode k m : ℕ) (ws room ys : List ℕ) → ys ≡ map (valueOf mode) (take k ws) → putMid m (m + k - m) room ys ≡ paste room m (map (valueOf mode) ws) k
-ran-mid mode k m ws room ys e = mid-paste room (map (valueOf mode) ws) ys m k (e ∙ map-part (valueOf mode) 0 k ws)
+-- and of the first k of the words
+pub ran-front : (mode k m : ℕ) (ws room : List ℕ) → k ≤ length ws
+    → paste room m (map (valueOf mode) (take k ws)) (length (take k ws)) ≡ paste room m (map (valueOf mode) ws) k
+ran-front mode k m ws room h =
+    let long : length (take k ws) ≡ k = length-take-le k ws h in
+    let same : take k (map (valueOf mode) (take k ws)) ≡ take k (map (valueOf mode) ws) =
+    take-all k (map (valueOf mode) (take k ws)) (omega (arith, length-map (take k ws) (valueOf mode), long)) ∙ map-part (valueOf mode) 0 k ws in
+    ap (paste room m (map (valueOf mode) (take k ws))) long ∙ ap (λ (l : List ℕ). take m room ++ l ++ drop (m + k) room) same

@@ -25,15 +25,19 @@ runOf mode (w ∷ ws) = let on = runOf mode ws in pick (stopsBy mode w) 0 (suc o
 unfoldable pub limitOf : ℕ → ℕ → ℕ
 limitOf room n = pick (eqb n 0) room (min n room)
 
--- how many words a phase takes at once: idle passes over a run, data takes as much of one as there is space for
+-- how many of so many words a phase takes at once, if no run ends among them: idle all, data as many as there is space for
+abbrev pub mostBy : Phase → ℕ → ℕ → ℕ
+mostBy Idle room long = long
+mostBy Kind room long = 0
+mostBy (First k) room long = 0
+mostBy (Second k a) room long = 0
+mostBy (Third k a b) room long = 0
+mostBy (Fourth k a b c) room long = 0
+mostBy (Data k n m) room long = min long (limitOf room n - m)
+
+-- how many words a phase takes at once
 abbrev pub takenBy : ℕ → Phase → ℕ → List ℕ → ℕ
-takenBy mode Idle room ws = runOf mode ws
-takenBy mode Kind room ws = 0
-takenBy mode (First k) room ws = 0
-takenBy mode (Second k a) room ws = 0
-takenBy mode (Third k a b) room ws = 0
-takenBy mode (Fourth k a b c) room ws = 0
-takenBy mode (Data k n m) room ws = runOf mode (take (min (length ws) (limitOf room n - m)) ws)
+takenBy mode p room ws = runOf mode (take (mostBy p room (length ws)) ws)
 
 -- the phase and the room after k words of a run
 abbrev pub ranPhase : Phase → ℕ → Phase

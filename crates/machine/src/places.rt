@@ -8,18 +8,25 @@ use words::class;
 use words::forms;
 ghost use mathlib.Core.Path.{_≡_};
 ghost use mathlib.Core.Bool.{_&&_};
-ghost use mathlib.Core.List.{map};
+ghost use mathlib.Core.List.{[], _∷_, map};
 ghost use Prim.Native.Nat.{_-_, _/_, _≤_};
 ghost use lib.Dec.{eqb};
 ghost use lib.ListN.{length};
 ghost use Rattle.words.specs.Modes.{valueOf};
 ghost use Rattle.machine.specs.Phases.{phaseNumbers};
-ghost use Rattle.machine.specs.Walk.{leaves};
+ghost use Rattle.machine.specs.declared.phase.Phase.{Phase};
+ghost use Rattle.machine.specs.Walk.{leaves, walkedTo};
 ghost use Rattle.machine.specs.WalkNumbers.{numbersOf, fixedBy};
 ghost use Rattle.machine.specs.Places.{placesIn, hasNull, metAt, placeRoom, walkPlaces, walkFixed};
 
-// 100h stands among the words. With no early exit the compiler takes many words at a time.
-fn has_null(words: &[u16]) -> bool
+// 100h stands among four words.
+fn has_null_four(a: u16, b: u16, c: u16, d: u16) -> bool
+    ensures { λ r. ⌜ r ≡ hasNull (a ∷ b ∷ c ∷ d ∷ []) ⌝ }
+{
+    (class::is_null(a) | class::is_null(b)) | (class::is_null(c) | class::is_null(d))
+}
+
+fn has_null_each(words: &[u16]) -> bool
     ensures { λ r. ⌜ r ≡ hasNull (now (words .entry)) ⌝ }
 {
     let mut found = false;
@@ -29,6 +36,20 @@ fn has_null(words: &[u16]) -> bool
         i += 1;
     }
     found
+}
+
+// 100h stands among the words: four at a time, because most fixed blocks have few values.
+fn has_null(words: &[u16]) -> bool
+    ensures { λ r. ⌜ r ≡ hasNull (now (words .entry)) ⌝ }
+{
+    let mut i = 0;
+    while 4 <= words.len() - i {
+        if has_null_four(words[i], words[i + 1], words[i + 2], words[i + 3]) {
+            return true;
+        }
+        i += 4;
+    }
+    has_null_each(&words[i..])
 }
 
 // The data are no values: 100h stands among them, in 8-bit mode.
@@ -41,17 +62,17 @@ fn is_void(mode: u8, words: &[u16]) -> bool
     has_null(words)
 }
 
-// What a place reports, its type word first: nothing where it is a null or empty. All that is asked of the type word is whether it is 100h, and
-// its form, so that no call on a fixed line builds the table of classes.
+// What a place reports, its type word first: nothing where it is a null or empty. Of a type word that is not in byte form, which is rare, the table
+// says whether it is 100h.
 fn met_at(mode: u8, place: &[u16]) -> Met
     requires { ⌜ 1 ≤ length (now place) ⌝ }
     ensures { λ r. ⌜ r ≡ metAt mode (now (place .entry)) ⌝ }
 {
     let w = place[0];
-    if class::is_null(w) {
-        return Met::Nothing;
-    }
     if !forms::is_byte(w) {
+        if class::bit_of(w) == class::NULL_BIT {
+            return Met::Nothing;
+        }
         return Met::Lost { reason: 2 };
     }
     let kind = (w % 256) as u8;
@@ -82,11 +103,26 @@ fn put_place(mode: u8, met: Met, words: &[u16], room: &mut [u16])
     }
 }
 
+// What a walk over places meets, and how many words it takes. The phase is no part of it: handed through, it would be moved in each call.
+struct Seen {
+    met: Met,
+    taken: usize,
+}
+
+fn met_after(met: Met, taken: usize) -> Seen
+    ensures { λ r. ⌜ (r .met ≡ met) × (r .taken ≡ taken) ⌝ }
+{
+    Seen {
+        met: met,
+        taken: taken,
+    }
+}
+
 // The walk over places of that size, as long as a whole one is left. It counts no places, so that no call divides.
-fn walk_all(mode: u8, phase: Phase, size: usize, words: &[u16], room: &mut [u16]) -> Walked
+fn see_all(mode: u8, size: usize, words: &[u16], room: &mut [u16]) -> Seen
     requires { ⌜ (1 ≤ size) × (size - 1 ≤ length (now room)) ⌝ }
-    ensures { λ r. ⌜ leaves r (now (room .exit))
-        ≡ walkPlaces mode phase (placesIn size (length (now (words .entry)) / size) (now (words .entry))) (now (room .entry)) ⌝ }
+    ensures { λ r. ⌜ ((p : Phase) → walkedTo p (r .met) (r .taken) (now (room .exit))
+        ≡ walkPlaces mode p (placesIn size (length (now (words .entry)) / size) (now (words .entry))) (now (room .entry))) ⌝ }
 {
     let mut i = 0;
     while size <= words.len() - i {
@@ -94,45 +130,41 @@ fn walk_all(mode: u8, phase: Phase, size: usize, words: &[u16], room: &mut [u16]
         let met = met_at(mode, &words[i..e]);
         if !walk::is_nothing(met) {
             put_place(mode, met, &words[i + 1..e], room);
-            return Walked {
-                phase: phase,
-                met: met,
-                taken: e,
-            };
+            return met_after(met, e);
         }
         i = e;
     }
-    Walked {
-        phase: phase,
-        met: Met::Nothing,
-        taken: i,
-    }
+    met_after(Met::Nothing, i)
 }
 
-// The walk over places of that size, for any phase, size, words and room; and its numbers. Words behind the last whole place are not looked
-// at. The place in front is asked before the loop, because most calls end with it.
+// The place in front is asked before the loop, because most calls end with it. Words behind the last whole place are not looked at.
+fn see_places(mode: u8, size: usize, words: &[u16], room: &mut [u16]) -> Seen
+    ensures { λ r. ⌜ ((p : Phase) → walkedTo p (r .met) (r .taken) (now (room .exit)) ≡ walkFixed mode p size (now (words .entry)) (now (room .entry))) ⌝ }
+{
+    if (size == 0) | (room.len() < lists::minus_or_zero(size, 1)) {
+        return met_after(Met::Nothing, 0);
+    }
+    if words.len() < size {
+        return met_after(Met::Nothing, 0);
+    }
+    let met = met_at(mode, &words[..size]);
+    if walk::is_nothing(met) {
+        return see_all(mode, size, words, room);
+    }
+    put_place(mode, met, &words[1..size], room);
+    met_after(met, size)
+}
+
+// The walk over places of that size, for any phase, size, words and room; and its numbers.
 pub fn walk_fixed(mode: u8, phase: Phase, size: usize, words: &[u16], room: &mut [u16]) -> Walked
     ensures { λ r. ⌜ (leaves r (now (room .exit)) ≡ walkFixed mode phase size (now (words .entry)) (now (room .entry)))
         × (numbersOf r ≡ fixedBy mode (length (now (room .entry))) (phaseNumbers phase) size (now (words .entry))) ⌝ }
 {
-    if (size == 0) | (room.len() < lists::minus_or_zero(size, 1)) {
-        return Walked {
-            phase: phase,
-            met: Met::Nothing,
-            taken: 0,
-        };
-    }
-    if words.len() < size {
-        return walk_all(mode, phase, size, words, room);
-    }
-    let met = met_at(mode, &words[..size]);
-    if walk::is_nothing(met) {
-        return walk_all(mode, phase, size, words, room);
-    }
-    put_place(mode, met, &words[1..size], room);
+    let x = see_places(mode, size, words, room);
+    let met = x.met;
     Walked {
         phase: phase,
         met: met,
-        taken: size,
+        taken: x.taken,
     }
 }

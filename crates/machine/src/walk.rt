@@ -1,5 +1,6 @@
-// The walk: the word machine over a lent part of an area, to the first report or to the part's end. Words that report nothing are taken
-// in runs.
+// The walk: the word machine over a lent part of an area, to the first report or to the part's end. A whole head, and words
+// that report nothing, are taken at once.
+use crate::heads;
 use crate::phase;
 use crate::phase::Phase;
 use crate::runs;
@@ -7,12 +8,14 @@ use crate::step;
 use crate::step::Met;
 use crate::step::Step;
 use words::class;
+use words::class::Class;
 use words::forms;
 ghost use mathlib.Core.Path.{_≡_};
 ghost use mathlib.Core.Bool.{true};
 ghost use Prim.Native.Nat.{_<_};
 ghost use lib.ListN.{length};
 ghost use Rattle.words.specs.Modes.{valueOf};
+ghost use Rattle.words.specs.Class.{classOf};
 ghost use Rattle.machine.specs.Machine.{stepOf};
 ghost use Rattle.machine.specs.Phases.{phaseNumbers};
 ghost use Rattle.machine.specs.Walk.{leaves, isNothing, collectedOf, stored, walkOf};
@@ -46,13 +49,23 @@ fn put_value(keeps: bool, m: usize, v: u16, room: &mut [u16])
     }
 }
 
-// One word: what it does, and its value into the room if it is kept. Its class is asked by the forms: a table named in a reading call costs
-// more than it saves (docs/PERFORMANCE.md).
+// The class of a word at which a run, or a head, stops. 30Ah is known by itself, because it ends every block; any other such word is rare, and the
+// table says its class.
+fn class_at(w: u16) -> Class
+    ensures { λ r. ⌜ r ≡ classOf w ⌝ }
+{
+    if w == class::END_CODE {
+        return Class::Ending;
+    }
+    class::class_of(w)
+}
+
+// One word: what it does, and its value into the room if it is kept.
 fn take_word(mode: u8, phase: Phase, w: u16, room: &mut [u16]) -> Step
     ensures { λ r. ⌜ (r ≡ stepOf mode (length (now (room .entry))) phase w)
         × (now (room .exit) ≡ stored (r .keeps) (collectedOf phase) (valueOf mode w) (now (room .entry))) ⌝ }
 {
-    let s = step::step_by(class::class_by_form(w), mode, room.len(), phase, w);
+    let s = step::step_by(class_at(w), mode, room.len(), phase, w);
     put_value(
         s.keeps,
         phase::collected_of(phase),
@@ -70,7 +83,10 @@ pub fn walk(mode: u8, phase: Phase, words: &[u16], room: &mut [u16]) -> Walked
     let mut p = phase;
     let mut i = 0;
     while i < words.len() {
-        let ran = runs::take_run(mode, p, &words[i..], room);
+        let head = heads::take_head(p, &words[i..], room.len());
+        let h = head.phase;
+        i += head.taken;
+        let ran = runs::take_run(mode, h, &words[i..], room);
         let q = ran.phase;
         i += ran.taken;
         if words.len() <= i {

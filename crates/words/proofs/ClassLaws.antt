@@ -76,6 +76,11 @@ module _ (w : ℕ) where
       unfolding classOf pick
       class-illegal d s e = simp (b, z, d, s, e)
 
+-- 30Ah itself
+pub end-class : classOf endCode ≡ Ending
+unfolding classOf isByte isData pick
+end-class = refl
+
 -- ---- 309h and 30Ah by the class: what is in byte form is in data form, and a code is not
 never : {A : Type 0} → true ≡ false → A
 never e = absurd (subst T e tt)

@@ -12,7 +12,7 @@ use borrow.Author.Tests.{lt-ltb, le-ltb, ne-eqb}
 use Rattle.lists.specs.Tests.{pick}
 use Rattle.lists.proofs.Tests.{pick-true, pick-false, lt-or-le}
 use Rattle.words.specs.Forms.{isByte, isData}
-use Rattle.words.specs.Class.{classOf, classNumber, separator, endCode, nullWord}
+use Rattle.words.specs.Class.{classOf, classNumber, separator, endCode, nullWord, isNull}
 use Rattle.words.specs.Table.{classBit, tabulate, classTable, bitIn, classOfBit, classIn, classNumberIn}
 use Rattle.words.specs.declared.class.Class.{Class}
 use Rattle.words.specs.declared.class.Class.the-variants.{Byte, Other, Separator, Ending, Illegal, Null}
@@ -56,6 +56,18 @@ bit-back Null = refl
 pub table-class : (w : ℕ) → classIn classTable w ≡ classOf w
 unfolding classIn
 table-class w = ap classOfBit (table-rule w) ∙ bit-back (classOf w)
+
+-- 100h by its bit
+bit-null : (k : Class) → eqb (classBit k) 32 ≡ isNull k
+bit-null Byte = refl
+bit-null Other = refl
+bit-null Separator = refl
+bit-null Ending = refl
+bit-null Illegal = refl
+bit-null Null = refl
+
+pub null-bit : (w : ℕ) → eqb (bitIn classTable w) 32 ≡ isNull (classOf w)
+null-bit w = ap (λ (b : ℕ). eqb b 32) (table-rule w) ∙ bit-null (classOf w)
 
 -- a bit that is none of the others is the illegal one's
 pub rest-illegal : (b : ℕ) → (b ≡ 1 → ⊥) → (b ≡ 2 → ⊥) → (b ≡ 4 → ⊥) → (b ≡ 8 → ⊥) → (b ≡ 32 → ⊥) → classOfBit b ≡ Illegal

@@ -1,9 +1,8 @@
 // What a word of the payload is, by one table of 1,024 entries. A constant array is built anew wherever it is named, so a loop over words asks
-// for the table once and lends it down; a walk, which asks few words a call, goes by the forms.
-use crate::forms;
+// for the table once and lends it down; a walk asks it by `bit_of`, of few words.
 ghost use mathlib.Core.Path.{_≡_};
 ghost use Rattle.words.specs.Class.{classOf, classNumber, classNumberOf, isCode, isNull};
-ghost use Rattle.words.specs.Table.{classTable, bitIn, classIn, classNumberIn};
+ghost use Rattle.words.specs.Table.{classTable, bitIn, classOfBit, classIn, classNumberIn};
 
 // The separator of a block, and its end code.
 pub const SEPARATOR: u16 = 0x309;
@@ -12,6 +11,9 @@ pub const END_CODE: u16 = 0x30a;
 
 // The word that decks of the 2001 edition send as an invalid type.
 pub const NULL_WORD: u16 = 0x100;
+
+// The bit of its class in the table.
+pub const NULL_BIT: u8 = 32;
 
 pub enum Class {
     Byte, // byte form
@@ -75,11 +77,11 @@ pub fn bit_in(t: &[u8; 1024], w: u16) -> u8
     16
 }
 
-// The class of a number in a table; and its number is that of the entry.
-pub fn class_in(t: &[u8; 1024], w: u16) -> Class
-    ensures { λ r. ⌜ (r ≡ classIn (now (t .entry)) w) × (classNumber r ≡ classNumberIn (now (t .entry)) w) ⌝ }
+// The class of a bit.
+fn class_of_bit(b: u8) -> Class
+    ensures { λ r. ⌜ r ≡ classOfBit b ⌝ }
 {
-    match bit_in(t, w) {
+    match b {
         1 => Class::Byte,
         2 => Class::Other,
         4 => Class::Separator,
@@ -89,33 +91,25 @@ pub fn class_in(t: &[u8; 1024], w: u16) -> Class
     }
 }
 
+// The class of a number in a table; and its number is that of the entry.
+pub fn class_in(t: &[u8; 1024], w: u16) -> Class
+    ensures { λ r. ⌜ (r ≡ classIn (now (t .entry)) w) × (classNumber r ≡ classNumberIn (now (t .entry)) w) ⌝ }
+{
+    class_of_bit(bit_in(t, w))
+}
+
+// The bit of a word. It is called from two places, so that the compiler keeps it apart, and the table is built only for a word that asks for it.
+pub fn bit_of(w: u16) -> u8
+    ensures { λ r. ⌜ r ≡ bitIn classTable w ⌝ }
+{
+    bit_in(&classes(), w)
+}
+
 // The class of a word; and its number is that of the forms.
 pub fn class_of(w: u16) -> Class
     ensures { λ r. ⌜ (r ≡ classOf w) × (classNumber r ≡ classNumberOf w) ⌝ }
 {
-    class_in(&classes(), w)
-}
-
-// The same by the forms, 100h and the two codes, with no table: for a walk, which stops at few words and would build the table in each call.
-pub fn class_by_form(w: u16) -> Class
-    ensures { λ r. ⌜ (r ≡ classOf w) × (classNumber r ≡ classNumberOf w) ⌝ }
-{
-    if forms::is_byte(w) {
-        return Class::Byte;
-    }
-    if w == NULL_WORD {
-        return Class::Null;
-    }
-    if forms::is_data(w) {
-        return Class::Other;
-    }
-    if w == SEPARATOR {
-        return Class::Separator;
-    }
-    if w == END_CODE {
-        return Class::Ending;
-    }
-    Class::Illegal
+    class_of_bit(bit_of(w))
 }
 
 // The word is 309h or 30Ah: what its class says, where only that is asked.

@@ -1,43 +1,79 @@
--- `machine::runs::run_of` meets its contract. Assumes nothing.
+-- `machine::runs::run_of` meets its contract: three searches, each behind the one before. Assumes nothing.
 use Rattle.lists.proofs.Needs.{need}
-use mathlib.Core.Path.{_≡_, sym, _∙_}
-use Prim.Native.Nat.{_+_, _-_, _≤_}
-use native.Mathlib.Nat.{zero-add}
-use lib.ListN.{length, drop}
+use mathlib.Core.Path.{_≡_, ap, _∙_, subst}
+use mathlib.Core.List.{List}
+use Prim.Native.Nat.{ℕ, _+_, _≤_}
+use native.Mathlib.Omega.{arith}
+use lib.ListN.{length, drop, length-drop}
 use Rattle.machine.specs.Runs.{runOf}
-use Rattle.machine.proofs.RunLaws.{run-next, run-found, run-out}
+use Rattle.machine.proofs.Going.{rest-lent}
+use Rattle.machine.proofs.RunLaws.{run-behind, run-long}
 use borrow.Author.Needs.{needs}
 use Rattle.machine.proofs.runs.run_of.Statement.{statement}
 use Rattle.machine.proofs.runs.run_of.Tie as tie
 
-abbrev Inv-loop : tie.InvT-loop
-Inv-loop mode words i₀ i = (i ≤ length words) × (i + runOf mode (drop i words) ≡ runOf mode words)
+-- the second search, over the words from a on
+second : (b : tie.After-run-by-chunks2) →
+    let a = b .before .before in
+    let g = a .before .before .args in
+    let n = b .run-by-chunks2 .result in
+    let l = drop (a .run-by-chunks .result) (g .words .now) in
+    (n ≤ length l) × (n + runOf (g .mode) (drop n l) ≡ runOf (g .mode) l)
+second b =
+    let a = b .before .before in
+    let g = a .before .before .args in
+    let n = b .run-by-chunks2 .result in
+    subst (λ (l : List ℕ). (n ≤ length l) × (n + runOf (g .mode) (drop n l) ≡ runOf (g .mode) l)) (rest-lent (a .run-by-chunks .result) (g .words .now)) (b .run-by-chunks2 .ensures)
 
-abbrev μ-loop : tie.MeasureT-loop
-μ-loop mode words i₀ i = length words - i
+-- all three
+whole : (w : tie.After-run-by-words) →
+    let b = w .before .before in
+    let a = b .before .before in
+    let g = a .before .before .args in
+    a .run-by-chunks .result + b .run-by-chunks2 .result + w .run-by-words .result ≡ runOf (g .mode) (g .words .now)
+whole w =
+    let b = w .before .before in
+    let a = b .before .before in
+    let g = a .before .before .args in
+    let m = a .run-by-chunks .result + b .run-by-chunks2 .result in
+    ap (λ (x : ℕ). m + x) (w .run-by-words .ensures ∙ ap (runOf (g .mode)) (rest-lent m (g .words .now)))
+    ∙ run-behind (g .mode) (g .words .now) (a .run-by-chunks .result) (b .run-by-chunks2 .result) _ (a .run-by-chunks .ensures .1) (second b .1)
 
-loop-holds : tie.Need-loop-holds Inv-loop μ-loop
-loop-holds c = (search needs, zero-add _)
+-- so many words there are
+within : (b : tie.After-run-by-chunks2) →
+    let a = b .before .before in
+    a .run-by-chunks .result + b .run-by-chunks2 .result ≤ length (a .before .before .args .words .now)
+within b =
+    let a = b .before .before in
+    omega (arith, a .run-by-chunks .ensures .0, second b .0, length-drop (a .run-by-chunks .result) (a .before .before .args .words .now))
 
-returns : tie.Need-returns Inv-loop μ-loop
-returns c =
-    let t = c .before .before .before in
-    let l = t .before .loop in
-    run-found _ _ (l .i) (t .loop-test .taken) (sym (c .before .stops .ensures) ∙ c .if1 .taken) ∙ l .inv .1
+add-b : tie.Need-add-b
+add-b c = let h = within c in search needs
 
-loop-again : tie.Need-loop-again Inv-loop μ-loop
-loop-again c =
-    let t = c .before .before .before in
-    let l = t .before .loop in
-    (search needs, run-next _ _ (l .i) (t .loop-test .taken) (sym (c .before .stops .ensures) ∙ c .if1 .left) ∙ l .inv .1)
+mul-run-by-words : tie.Need-mul-run-by-words
+mul-run-by-words c = let h = within c in search needs
 
-returns-2 : tie.Need-returns-2 Inv-loop μ-loop
-returns-2 c = run-out _ _ (c .before .loop .i) (c .loop-test .left) ∙ c .before .loop .inv .1
+sub-run-by-words : tie.Need-sub-run-by-words
+sub-run-by-words c = let h = within c in search needs
+
+part-run-by-words-start : tie.Need-part-run-by-words-start
+part-run-by-words-start c = let h = within c in search needs
+
+add-result : tie.Need-add-result
+add-result c =
+    let g = c .before .before .before .before .before .before .args in
+    let h = whole c in
+    let k = run-long (g .mode) (g .words .now) in
+    search needs
+
+returns : tie.Need-returns
+returns c = whole c
 
 pub run-of-spec : {M : Type 1} → statement M
 run-of-spec =
     tie.close (tie.spec
-    Inv-loop μ-loop loop-holds (need (tie.Need-mul-stops Inv-loop μ-loop) (λ c. search needs))
-    (need (tie.Need-shared-slice-read-stops Inv-loop μ-loop) (λ c. search needs))
-    (need (tie.Need-stops-requires Inv-loop μ-loop) (λ c κs. search needs)) returns (need (tie.Need-add-i Inv-loop μ-loop) (λ c. search needs))
-    (need (tie.Need-loop-less Inv-loop μ-loop) (λ c. search needs)) loop-again returns-2)
+    (need tie.Need-run-by-chunks-requires (λ c κs. search needs)) (need tie.Need-mul-run-by-chunks (λ c. search needs))
+    (need tie.Need-sub-run-by-chunks (λ c. search needs)) (need tie.Need-part-run-by-chunks-start (λ c. search needs))
+    (need tie.Need-part-run-by-chunks-end (λ c. search needs)) (need tie.Need-run-by-chunks-requires-2 (λ c κs. search needs)) add-b mul-run-by-words
+    sub-run-by-words part-run-by-words-start (need tie.Need-part-run-by-words-end (λ c. search needs))
+    (need tie.Need-run-by-words-requires (λ c κs. search needs)) add-result returns)

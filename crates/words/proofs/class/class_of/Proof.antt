@@ -1,9 +1,7 @@
--- `words::class::class_of` meets its contract. Assumes nothing.
+-- `words::class::class_of` meets its contract: the table's class of every number is the number's class. Assumes nothing.
 use Rattle.lists.proofs.Needs.{need}
 use mathlib.Core.Path.{ap, _∙_}
-use mathlib.Core.List.{List}
-use Prim.Native.Nat.{ℕ}
-use Rattle.words.specs.Table.{classIn}
+use Rattle.words.specs.Table.{classOfBit, classIn}
 use Rattle.words.proofs.ClassLaws.{class-numbered}
 use Rattle.words.proofs.TableLaws.{table-class}
 use borrow.Author.Needs.{needs}
@@ -11,10 +9,9 @@ use Rattle.words.proofs.class.class_of.Statement.{statement}
 use Rattle.words.proofs.class.class_of.Tie as tie
 
 returns : tie.Need-returns
-returns c =
-    let w = c .before .before .before .args .w in
-    class-numbered w _ (c .class-in .ensures .0 ∙ ap (λ (t : List ℕ). classIn t w) (c .before .before .classes .ensures) ∙ table-class w)
+unfolding classIn
+returns c = let w = c .before .before .args .w in class-numbered w _ (c .class-of-bit .ensures ∙ ap classOfBit (c .before .bit-of .ensures) ∙ table-class w)
 
 pub class-of-spec : {M : Type 1} → statement M
 class-of-spec =
-    tie.close (tie.spec (need tie.Need-classes-requires (λ c κs. search needs)) (need tie.Need-class-in-requires (λ c κs. search needs)) returns)
+    tie.close (tie.spec (need tie.Need-bit-of-requires (λ c κs. search needs)) (need tie.Need-class-of-bit-requires (λ c κs. search needs)) returns)
