@@ -3,6 +3,7 @@ from book import whole
 from put import state
 from reader import NULL
 from states import READER
+from under import EACH, MOST, laid, under
 from words import VARIABLE, block_head, byte_form
 
 ONE, TWO, THREE = map(byte_form, (1, 2, 3))
@@ -209,7 +210,77 @@ def fixed(book):
                 book.step("view")
 
 
-PARTS = [behind, split, causes, long_nulls, left, put_states, fixed]
+# ---- under allowances (02, Item 10)
+
+
+def paused(book):
+    """A null and a block behind it, from place 3 on; allowances that end on each of the null's words, just behind it, and on the block's end."""
+    words = [*null(4, 5, 6), *whole(9, 1, 2)]
+    for system, mode in EACH:
+        for a in range(1, len(words) + 2):
+            book.note(f"nulls, system {system}, mode {mode}: an allowance that ends {a} words from where a null begins")
+            book.new(system, mode)
+            laid(book, 3, words, a % 2)
+            under(book, 3, 2)  # begun, and the words before the null
+            under(book, a, 1)
+            under(book, 0, 1)
+            under(book, 1, 1)
+            under(book, MOST)
+        book.step("view")
+
+
+def paused_in_slices(book):
+    """Nulls in slices: over a line's end, and to the area's last word; with each allowance one call or more pauses in them."""
+    words = null(4, 5, 6)
+    for system, mode in EACH:
+        for a in (1, 2, 3, len(words)):
+            book.note(f"nulls, system {system}, mode {mode}: in slices of {a}, over a line's end and to an area's end")
+            for k in (a, 5, 8):
+                book.new(system, mode, 524)
+                laid(book, book.area(1) - k, words[:k], 1)
+                under(book, book.area(1) - k, 2)
+                under(book, a)
+                laid(book, 0, [*words[k:], *null(), *whole(9, 1), *null(7, 8)], 1)
+                under(book, a, 40)
+                under(book, MOST)
+            laid(book, book.area(0) - len(words), words)
+            under(book, book.area(0) - len(words), 2)
+            under(book, a)
+        book.step("view")
+
+
+def paused_at_faults(book):
+    """The word that drops a null, and 100h that drops a block in 8-bit mode: one before the last word allowed, the last, one behind it."""
+    for mode in 8, 9:
+        for k, (reason, before, cause) in enumerate(CAUSES):
+            if cause == 0x201:
+                continue  # no 8-bit line has it
+            book.note(f"nulls, mode {mode}: drop {reason}, or a value, and allowances that end beside it")
+            for more in (-1, 0, 1):
+                book.new(k % 4, mode)
+                laid(book, 700, [*before, cause, 0x200])
+                under(book, 700, 2)
+                under(book, len(before) + 1 + more, 1)
+                under(book, 1, 1)
+                under(book, MOST)
+
+
+def paused_at_places(book):
+    """Null places beside others: each counts as one, whatever its data are."""
+    for system, mode in EACH:
+        for a in (1, 2, 3):
+            book.note(f"nulls, system {system}, mode {mode}: null places, allowance {a}")
+            for first in (0, 1):
+                book.new(system, mode)
+                laid(book, 5 * first, [*PLACES[0][:3], NULL, NULL, *PLACES[1][:4], 0x200, *PLACES[9], *PLACES[9], *PLACES[2]], block=0x21)
+                under(book, a, 3)
+                under(book, 0, 1)
+                under(book, a, 4)
+                under(book, MOST)
+        book.step("view")
+
+
+PARTS = [behind, split, causes, long_nulls, left, put_states, fixed, paused, paused_in_slices, paused_at_faults, paused_at_places]
 
 
 # ---- what the rows hold
@@ -232,6 +303,24 @@ def of_call(before, ended, reader, event):
         yield "null dropped", mode, event[1]
 
 
+def of_pause(ended, reader, line, event, consumed):
+    """Where an allowance ended in a null or at it: how many nulls had ended before the call, the reader after it, and what it met."""
+    if event is not None or not consumed:
+        return
+    start, end, size = reader.sizes()
+    mode, here = reader.mode, start + reader.place
+    if reader.settings[2] != VARIABLE:
+        if line[here - size] == NULL:
+            yield "pause at a null place", mode, consumed
+        return
+    if is_null(reader.phase):
+        yield "pause in a null", mode, *([len(reader.phase)] if reader.phase[0] == "count" else ["data", reader.phase[3]])
+        if reader.place == end:
+            yield "pause in a null", mode, "at the area's end"
+    if reader.nulls > ended:
+        yield from (("pause at a null's end", mode, k) for k in (1, 2) if line[here - k] == 0x30A)
+
+
 def asked():
     for mode in 8, 9:
         yield from (("null", mode, name, True) for name in ("begun", "refused"))
@@ -239,5 +328,8 @@ def asked():
         yield from (("null left", mode, part) for part in (2, 3, 4, 5, "data"))
         yield from (("null ended", mode, name) for name in ("block", "end", "drop"))
         yield from (("null dropped", mode, reason) for reason in (1, 3, 4, 5, 6))
+        yield from (("pause in a null", mode, *part) for part in [(2,), (3,), (4,), (5,), ("data", 0), ("data", 1), ("data", 3), ("at the area's end",)])
+        yield from (("pause at a null's end", mode, k) for k in (1, 2))
+        yield "pause at a null place", mode, 1
     yield "null dropped", 8, 7
     yield from (("drop", 8, 7, where) for where in ("first", "middle", "last"))

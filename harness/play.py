@@ -237,10 +237,11 @@ class Play:
         allowance = 2**64 - 1 - allowance if below else allowance
         row, reader = ["under"], to_reader(self.scope, self.states[READER])
         for _ in range(times):
-            lent, before = self.room[:room], reader.place is not None
+            lent, before, ended = self.room[:room], reader.place is not None, reader.nulls
             event, consumed = read_within(reader, allowance, self.line[:length], lent)
             self.room[:room] = lent
             self.seen.update(seen_of(reader, before, allowance, event, consumed))
+            self.seen.update(nulls.of_pause(ended, reader, self.line, event, consumed))
             row += ["paused"] if event is None else [said(event), Register(lent[: event[2]])] if event[0] == "block" else [said(event)]
             row.append(consumed)
             if event is not None:
