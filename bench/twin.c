@@ -579,6 +579,7 @@ static int read_within(Reader *r, size_t allowance, const uint16_t *line, size_t
     return ENDED;
 }
 
+#ifndef TWIN_WITHOUT_JOBS // twin_host.c has others
 // ---- the jobs
 static uint16_t lines[BATCH][LENGTH], room[ROOM], values[MOST];
 
@@ -685,3 +686,4 @@ int main(int argc, char **argv) {
     printf("%u %u\n", crc_of(lines[0], BATCH * LENGTH), digest);
     return 0;
 }
+#endif

@@ -96,7 +96,7 @@ pub fn is_misphased(room: usize, phase: Phase) -> bool
 }
 
 // The number collected.
-pub(crate) fn collected_of(phase: Phase) -> usize
+pub fn collected_of(phase: Phase) -> usize
     ensures { λ r. ⌜ r ≡ collectedOf phase ⌝ }
 {
     match phase {

@@ -185,7 +185,7 @@ fn count_of(b0: u8, b1: u8, b2: u8, b3: u8) -> usize
 }
 
 // One word of that class, in that mode and a room of that length.
-pub(crate) fn step_by(c: Class, mode: u8, room: usize, phase: Phase, w: u16) -> Step
+pub fn step_by(c: Class, mode: u8, room: usize, phase: Phase, w: u16) -> Step
     ensures { λ r. ⌜ r ≡ stepBy mode room phase c (w % 256) ⌝ }
 {
     let b = (w % 256) as u8;

@@ -3,8 +3,15 @@ ghost use mathlib.Core.Path.{_≡_};
 ghost use Prim.Native.Nat.{_+_, _*_, _/_, _%_, min};
 ghost use lib.ListN.{length};
 ghost use lib.Seq.{paste};
-ghost use Rattle.octets.specs.Bytes.{wordsOf, bytesOf};
+ghost use Rattle.octets.specs.Bytes.{wordsOf, bytesOf, isEven};
 ghost use Rattle.octets.specs.Numbers.{digitMore, numberOf};
+
+// An even number of bytes.
+pub fn is_even(bytes: &[u8]) -> bool
+    ensures { λ r. ⌜ r ≡ isEven (now (bytes .entry)) ⌝ }
+{
+    bytes.len() % 2 == 0
+}
 
 // A word of two bytes.
 fn joined(low: u8, high: u8) -> u16

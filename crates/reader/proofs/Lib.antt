@@ -6,6 +6,7 @@ pub mod EventLaws
 pub mod Accepts
 pub mod NumberLaws
 pub mod ReadLaws
+pub mod AskLaws
 pub mod Ends
 pub mod Cutting
 pub mod WithinLaws

@@ -5,3 +5,4 @@ pub mod Reading
 pub mod Numbers
 pub mod Lending
 pub mod Within
+pub mod Asking

@@ -27,19 +27,20 @@ ghost use Rattle.machine.specs.Walk.{leaves};
 ghost use Rattle.reader.specs.Events.{eventNumbers};
 ghost use Rattle.reader.specs.Numbers.{readBy};
 ghost use Rattle.reader.specs.Reading.{reply, walkFrom, toldBy, goesFrom, readFaultIn, readingIn, reading};
+ghost use Rattle.reader.specs.Asking.{barred, asked};
 ghost use Rattle.reader.specs.Within.{walkTo};
 
 // What a call asks before it reads: the lower of 1 and 2 that holds, or 0; and then where blocks end in the line, and the size of a fixed
 // block.
-pub(crate) struct Asked {
-    pub(crate) fault: u8,
-    pub(crate) end: usize,
-    pub(crate) size: u16,
+pub struct Asked {
+    pub fault: u8,
+    pub end: usize,
+    pub size: u16,
 }
 
 // A call that 1 or 2 refuses reads nothing.
 fn barred(fault: u8) -> Asked
-    ensures { λ r. ⌜ r .fault ≡ fault ⌝ }
+    ensures { λ r. ⌜ r ≡ barred fault ⌝ }
 {
     Asked {
         fault: fault,
@@ -49,10 +50,8 @@ fn barred(fault: u8) -> Asked
 }
 
 // Each test leaves, and the table of fixed blocks is looked up once, because a call of a fixed line moves few words.
-pub(crate) fn ask(capacity: usize, st: Reader, long: usize, room: usize) -> Asked
-    ensures { λ r. ⌜ (r .fault ≡ readFaultIn capacity st long room)
-        × (r .fault ≡ 0 → (r .end ≡ blocksEnd (systemOf (st .system) .payload) (st .settings .block) (st .settings .flag))
-        × (r .size ≡ sizeOf (st .settings .block))) ⌝ }
+pub fn ask(capacity: usize, st: Reader, long: usize, room: usize) -> Asked
+    ensures { λ r. ⌜ r ≡ asked capacity st long room ⌝ }
 {
     let last = st.last;
     let settings = st.settings;
@@ -101,7 +100,7 @@ pub(crate) fn walk_from(
 }
 
 // What the call tells of what was met, the place being q afterwards.
-pub(crate) fn tell(st: Reader, q: usize, phase: Phase, met: Met) -> Told
+pub fn tell(st: Reader, q: usize, phase: Phase, met: Met) -> Told
     ensures { λ r. ⌜ r ≡ toldBy st q phase met ⌝ }
 {
     let last = st.last;

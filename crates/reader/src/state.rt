@@ -65,7 +65,7 @@ pub fn fresh_reader(system: u8, mode: u8) -> Reader
 }
 
 // The same system and mode, and all else anew.
-pub(crate) fn becomes(st: Reader, last: Last, t: Settings, place: Place, phase: Phase) -> Reader
+pub fn becomes(st: Reader, last: Last, t: Settings, place: Place, phase: Phase) -> Reader
     ensures { λ r. ⌜ r ≡ becomes st last t place phase ⌝ }
 {
     Reader {

@@ -32,7 +32,7 @@ pub struct Within {
     pub state: Reader,
 }
 
-fn paused(consumed: usize, st: Reader) -> Within
+pub fn paused(consumed: usize, st: Reader) -> Within
     ensures { λ r. ⌜ r ≡ pausedAt consumed st ⌝ }
 {
     Within {
@@ -43,7 +43,7 @@ fn paused(consumed: usize, st: Reader) -> Within
 }
 
 // What a reading call tells, and what it consumed.
-fn tells(consumed: usize, t: Told) -> Within
+pub fn tells(consumed: usize, t: Told) -> Within
     ensures { λ r. ⌜ r ≡ tells consumed t ⌝ }
 {
     let event = t.event;

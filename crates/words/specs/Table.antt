@@ -9,7 +9,7 @@ use Rattle.words.specs.Class.{classOf}
 use Rattle.words.specs.declared.class.Class.{Class}
 use Rattle.words.specs.declared.class.Class.the-variants.{Byte, Other, Separator, Ending, Illegal, Null}
 
--- one bit for each class, so that those of many words can be or-ed together
+-- one bit for each class
 abbrev pub classBit : Class → ℕ
 classBit Byte = 1
 classBit Other = 2

@@ -1,5 +1,5 @@
-// What a word of the payload is, by one table of 1,024 entries. A constant array is built anew wherever it is named, so a loop over words asks
-// for the table once and lends it down; a walk asks it by `bit_of`, of few words.
+// What a word of the payload is, by one table of 1,024 entries. A constant array is built anew wherever it is named, so it is named for single words alone: by
+// `bit_of`, which a walk asks of few words.
 ghost use mathlib.Core.Path.{_≡_};
 ghost use Rattle.words.specs.Class.{classOf, classNumber, classNumberOf, isCode, isNull};
 ghost use Rattle.words.specs.Table.{classTable, bitIn, classOfBit, classIn, classNumberIn};
@@ -24,7 +24,7 @@ pub enum Class {
     Null, // 100h
 }
 
-// A bit for each class, so that the classes of many words can be or-ed together: byte form 1, other data form 2, separator 4, end code 8,
+// A bit for each class: byte form 1, other data form 2, separator 4, end code 8,
 // illegal 16, 100h 32. Entry w is that of the word w, 32 words a row.
 const CLASSES: [u8; 1024] =
     *b"\x10\x10\x10\x10\x10\x10\x10\x10\x10\x10\x10\x10\x10\x10\x10\x10\x10\x10\x10\x10\x10\x10\x10\x10\x10\x10\x10\x10\x10\x10\x10\x10\

@@ -1,7 +1,8 @@
 -- `reader::read::ask` meets its contract. Assumes nothing.
 use Rattle.lists.proofs.Needs.{need}
-use mathlib.Core.Path.{_≡_, sym, ap, _∙_}
+use mathlib.Core.Path.{_≡_, sym, ap, ap₂, _∙_}
 use mathlib.Core.Bool.{Bool, true, false, _&&_}
+use Prim.Native.Nat.{ℕ}
 use native.Mathlib.Omega.{arith}
 use lib.Dec.{eqb}
 use borrow.Author.Tests.{not-true, not-false}
@@ -11,21 +12,22 @@ use Rattle.course.specs.Course.{impossibleAfter}
 use Rattle.machine.specs.Phases.{isBusy, misphased}
 use Rattle.reader.specs.State.{impossibleIn}
 use Rattle.reader.proofs.ReadLaws.{fault-1, fault-2, fault-0}
+use Rattle.reader.proofs.AskLaws.{asks-barred, asks-cleared}
 use borrow.Author.Needs.{needs}
 use Rattle.reader.proofs.read.ask.Statement.{statement}
 use Rattle.reader.proofs.read.ask.Tie as tie
 
 -- ---- what the tests found
 -- 1: the words and the room
-asked : (x : tie.After-is-fit) (b : Bool) →
+found : (x : tie.After-is-fit) (b : Bool) →
     let g = x .before .before .args in
     (x .is-fit .result && eqb (g .room) (g .capacity)) ≡ b → (fitsLength (g .st .system) (g .st .mode) (g .long) && eqb (g .room) (g .capacity)) ≡ b
-asked x b e = ap (λ (f : Bool). f && eqb (x .before .before .args .room) (x .before .before .args .capacity)) (sym (x .is-fit .ensures)) ∙ e
+found x b e = ap (λ (f : Bool). f && eqb (x .before .before .args .room) (x .before .before .args .capacity)) (sym (x .is-fit .ensures)) ∙ e
 
 fit : (x : tie.Else1) →
     let g = x .before .before .before .args in
     (fitsLength (g .st .system) (g .st .mode) (g .long) && eqb (g .room) (g .capacity)) ≡ true
-fit x = asked (x .before) true (not-false _ (x .if1 .left))
+fit x = found (x .before) true (not-false _ (x .if1 .left))
 
 -- 2: the course of lines
 course : (x : tie.After-look) →
@@ -38,16 +40,15 @@ course x =
 returns : tie.Need-returns
 returns c =
     let x = c .before .before in
-    let e = c .barred .ensures in
-    (e ∙ fault-1 (x .before .before .args .capacity) (x .before .before .args .st) _ _ (asked x false (not-true _ (c .before .if1 .taken))), λ z. absurd (omega (arith, e, z)))
+    let g = x .before .before .args in
+    c .barred .ensures ∙ asks-barred _ _ _ _ 1 (λ z. omega arith) (fault-1 (g .capacity) (g .st) _ _ (found x false (not-true _ (c .before .if1 .taken))))
 
 returns-2 : tie.Need-returns-2
 unfolding impossibleIn
 returns-2 c =
     let x = c .before .before in
-    let e = c .barred2 .ensures in
     let bad = or-left _ _ (sym (course x) ∙ c .before .if2 .taken) in
-    (e ∙ fault-2 _ (x .before .before .before .before .before .args .st) _ _ (fit (x .before .before)) bad, λ z. absurd (omega (arith, e, z)))
+    c .barred2 .ensures ∙ asks-barred _ _ _ _ 2 (λ z. omega arith) (fault-2 _ (x .before .before .before .before .before .args .st) _ _ (fit (x .before .before)) bad)
 
 returns-3 : tie.Need-returns-3
 unfolding impossibleIn
@@ -56,9 +57,8 @@ returns-3 c =
     let x = m .before .before in
     let g = x .before .before .before .before .before .args in
     let st = g .st in
-    let e = c .barred3 .ensures in
     let bad = or-right (impossibleAfter (st .system) (st .last) (st .settings) (st .place) (isBusy (st .phase))) (misphased (g .capacity) (st .phase)) (sym (m .is-misphased .ensures) ∙ c .before .if3 .taken) in
-    (e ∙ fault-2 _ st _ _ (fit (x .before .before)) bad, λ z. absurd (omega (arith, e, z)))
+    c .barred3 .ensures ∙ asks-barred _ _ _ _ 2 (λ z. omega arith) (fault-2 _ st _ _ (fit (x .before .before)) bad)
 
 returns-4 : tie.Need-returns-4
 unfolding impossibleIn
@@ -67,7 +67,8 @@ returns-4 c =
     let x = m .before .before in
     let st = x .before .before .before .before .before .args .st in
     let good = false-or (sym (course x) ∙ m .before .if2 .left) (sym (m .is-misphased .ensures) ∙ c .if3 .left) in
-    (fault-0 _ st _ _ (fit (x .before .before)) good, λ z. (x .look .ensures .1, x .look .ensures .2))
+    ap₂ (λ (e s : ℕ). record { fault = 0; end = e; size = s }) (x .look .ensures .1) (x .look .ensures .2)
+    ∙ asks-cleared _ st _ _ (fault-0 _ st _ _ (fit (x .before .before)) good)
 
 pub ask-spec : {M : Type 1} → statement M
 ask-spec =

@@ -1,0 +1,47 @@
+-- `bytereader::start` meets its contract: the words in front of the array are those that the bytes spell. Assumes nothing.
+use Rattle.lists.proofs.Needs.{need}
+use mathlib.Core.Path.{_≡_, sym, ap, _∙_}
+use mathlib.Core.List.{List}
+use Prim.Native.Nat.{ℕ, _/_, _≤_}
+use native.Mathlib.Omega.{arith}
+use lib.ListN.{length, take, replicate}
+use lib.Seq.{length-take-le}
+use Rattle.line.specs.Check.{checkedOf}
+use Rattle.octets.specs.Bytes.{wordsOf}
+use Rattle.octets.proofs.BytesLaws.{length-words}
+use Rattle.reader.specs.Reading.{starts}
+use Rattle.bytereader.proofs.PairLaws.{front-words}
+use borrow.Author.Needs.{needs}
+use Rattle.bytereader.proofs.start.Statement.{statement}
+use Rattle.bytereader.proofs.start.Tie as tie
+
+-- the array has as many words as before, and the line's in front
+long : (x : tie.After-words-of) → length (x .words-of .last .1 .0) ≡ 2304
+long x = x .words-of .kept .1 .0
+
+fits : (x : tie.After-words-of) → length (x .before .before .before .args .line .now) / 2 ≤ length (x .words-of .last .1 .0)
+fits x = let s = x .before .before .before in omega (arith, s .pre, long x, length-words (s .args .line .now))
+
+front : (x : tie.After-words-of) → let line = x .before .before .before .args .line .now in take (length line / 2) (x .words-of .last .1 .0) ≡ wordsOf line
+front x =
+    let s = x .before .before .before in
+    let line = s .args .line .now in
+    ap (take (length line / 2)) (x .words-of .ensures) ∙ front-words (replicate 2304 0) (wordsOf line) (length line / 2) (sym (length-words line)) (s .pre)
+
+array-share-prefix-words : tie.Need-array-share-prefix-words
+array-share-prefix-words c = fits (c .before)
+
+slice-aggregate-start : tie.Need-slice-aggregate-start
+slice-aggregate-start c = sym (length-take-le _ _ (fits (c .before .before)))
+
+returns : tie.Need-returns
+returns c =
+    let x = c .before .before .before in
+    let st = x .before .before .before .args .st in
+    c .start .ensures .0 ∙ ap (λ (l : List ℕ). starts st (checkedOf (st .system) (st .mode) l)) (front x)
+
+pub start-spec : {M : Type 1} → statement M
+start-spec =
+    tie.close (tie.spec
+    (need tie.Need-slice-aggregate-words-of (λ c. search needs)) (need tie.Need-words-of-requires (λ c κs. search needs)) array-share-prefix-words slice-aggregate-start
+    (need tie.Need-start-requires (λ c κs. search needs)) returns)

@@ -1,0 +1,4 @@
+pub mod AnswerLaws
+pub mod LookLaws
+pub mod BytesAnswers
+pub mod CallLaws

@@ -1,0 +1,45 @@
+-- `host::looking::sdti_check` meets its contract: the tests in their order, then the line check's answer. Assumes nothing.
+use Rattle.lists.proofs.Needs.{need}
+use mathlib.Core.Path.{_∙_}
+use native.Mathlib.Omega.{arith}
+use Rattle.octets.proofs.BytesLaws.{length-words}
+use Rattle.host.proofs.LookLaws.{LentIn, lent-in, check-unlent, check-misshaped, check-1, check-told}
+use borrow.Author.Needs.{needs}
+use Rattle.host.proofs.looking.sdti_check.Statement.{statement}
+use Rattle.host.proofs.looking.sdti_check.Tie as tie
+
+returns : tie.Need-returns
+returns c = let a = c .before .before .before .args in check-unlent (a .system) (a .mode) (a .line .now) (a .header .now) (c .if1 .taken)
+
+returns-2 : tie.Need-returns-2
+returns-2 c = let a = c .before .before .before .before .args in check-misshaped (a .system) (a .mode) (a .line .now) (a .header .now) (c .if2 .taken)
+
+lent : (e : tie.Else1) → LentIn 4608 (e .before .before .before .args .line .now)
+lent e = lent-in 4608 (e .before .before .before .args .line .now) (e .if1 .left)
+
+check-bytes-requires : tie.Need-check-bytes-requires
+check-bytes-requires c κs = omega (arith, lent (c .before) .most, length-words (c .before .before .before .before .args .line .now))
+
+returns-3 : tie.Need-returns-3
+returns-3 c =
+    let x = c .before .before in
+    let e = x .before in
+    let a = e .before .before .before .before .args in
+    check-1 (a .system) (a .mode) (a .line .now) (a .header .now) _ (x .check-bytes .ensures) (c .if3 .taken)
+
+returns-4 : tie.Need-returns-4
+returns-4 c =
+    let b = c .before .before .before in
+    let h = b .before .before .before in
+    let n = h .before .before in
+    let x = n .before .before in
+    let e = x .before in
+    let a = e .before .before .before .before .args in
+    check-told (a .system) (a .mode) (a .line .now) (a .header .now) _ (x .check-bytes .ensures) (lent (e .before) .even) (e .if2 .left) _ (n .if3 .left)
+    (b .copy-bytes .ensures ∙ h .header-bytes .ensures)
+
+pub sdti-check-spec : {M : Type 1} → statement M
+sdti-check-spec =
+    tie.close (tie.spec
+    returns returns-2 check-bytes-requires returns-3 (need tie.Need-header-bytes-requires (λ c κs. search needs)) (need tie.Need-slice-aggregate-copy-bytes (λ c. search needs))
+    (need tie.Need-copy-bytes-requires (λ c κs. search needs)) (need tie.Need-cast-result (λ c. search needs)) (need tie.Need-same-length (λ c. search needs)) returns-4)

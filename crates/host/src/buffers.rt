@@ -1,0 +1,35 @@
+// Lent bytes copied to arrays of their length, and back.
+ghost use mathlib.Core.Path.{_≡_};
+ghost use lib.ListN.{length};
+
+// The bytes of an image.
+pub(crate) fn image_in(s: &[u8]) -> [u8; 80]
+    requires { ⌜ length (now s) ≡ 80 ⌝ }
+    ensures { λ r. ⌜ r ≡ now (s .entry) ⌝ }
+{
+    let mut out = [0u8; 80];
+    copy_bytes(s, &mut out);
+    out
+}
+
+// The bytes of settings.
+pub(crate) fn settings_in(s: &[u8]) -> [u8; 41]
+    requires { ⌜ length (now s) ≡ 41 ⌝ }
+    ensures { λ r. ⌜ r ≡ now (s .entry) ⌝ }
+{
+    let mut out = [0u8; 41];
+    copy_bytes(s, &mut out);
+    out
+}
+
+// The bytes of s, into a part of its length.
+pub(crate) fn copy_bytes(s: &[u8], out: &mut [u8])
+    requires { ⌜ length (now out) ≡ length (now s) ⌝ }
+    ensures { λ _. ⌜ now (out .exit) ≡ now (s .entry) ⌝ }
+{
+    let mut i = 0;
+    while i < s.len() {
+        out[i] = s[i];
+        i += 1;
+    }
+}

@@ -1,0 +1,16 @@
+pub mod Early
+pub mod EvenBytes
+pub mod CourseHeld
+pub mod SettingsHeld
+pub mod PhaseHeld
+pub mod ReaderHeld
+pub mod WriterHeld
+pub mod BatchHeld
+pub mod Sixteen
+pub mod ReadingCalls
+pub mod WritingCalls
+pub mod LookingCalls
+pub mod ReaderCourses
+pub mod WriterCourses
+pub mod HostedHolds
+pub mod HostedCited

@@ -1,0 +1,7 @@
+pub mod NumberLaws
+pub mod HeldLaws
+pub mod JoinLaws
+pub mod FrameLaws
+pub mod ImageLaws
+pub mod WriterLaws
+pub mod EventLaws

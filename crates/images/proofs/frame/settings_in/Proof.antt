@@ -1,0 +1,15 @@
+-- `images::frame::settings_in` meets its contract. Assumes nothing.
+use Rattle.lists.proofs.Needs.{need}
+use borrow.Author.Needs.{needs}
+use Rattle.images.proofs.frame.settings_in.Statement.{statement}
+use Rattle.images.proofs.frame.settings_in.Tie as tie
+
+returns : tie.Need-returns
+returns c = cc
+
+pub settings-in-spec : {M : Type 1} → statement M
+settings-in-spec =
+    tie.close (tie.spec
+    (need tie.Need-sub-copy-bytes (λ c. search needs)) (need tie.Need-part-copy-bytes-start (λ c. search needs))
+    (need tie.Need-part-copy-bytes-end (λ c. search needs)) (need tie.Need-slice-aggregate-copy-bytes (λ c. search needs))
+    (need tie.Need-copy-bytes-requires (λ c κs. search needs)) (need tie.Need-settings-of-requires (λ c κs. search needs)) returns)

@@ -1,0 +1,52 @@
+-- What the image of a reader's and of a writer's state share. An image has 80 bytes, numbers lowest byte first, and what is not used is 0:
+-- 0 whose image it is; 1 system; 2 mode; 3 a last number is there, 0 or 1; 4-5 the last number; 6 a line is begun (open), 0 or 1; 7 where a block stands;
+-- 8-15 the place; 16-36 what is held of the block; 37-77 the settings; 78-79 nothing.
+-- Assumes nothing.
+use Prim.Native.Nat.{ℕ, zero, suc}
+use mathlib.Core.Bool.{Bool}
+use mathlib.Core.List.{List, [], _∷_, _++_}
+use lib.ListN.{getD}
+use Rattle.lists.specs.Lists.{part}
+use Rattle.line.specs.declared.settings.Settings.{Settings}
+use Rattle.course.specs.declared.Last.{Last}
+use Rattle.course.specs.declared.Last.the-variants.{Unknown, Number}
+use Rattle.course.specs.declared.Place.{Place}
+use Rattle.course.specs.declared.Place.the-variants.{Shut, At}
+use Rattle.course.specs.Course.{placeOf}
+use Rattle.images.specs.Fields.{bytesFor, numberFrom, settingsBytes}
+
+abbrev pub imageLength : ℕ
+imageLength = 80
+
+-- whether a last number is there, and the number
+abbrev pub lastBytes : Last → List ℕ
+lastBytes Unknown = 0 ∷ 0 ∷ 0 ∷ []
+lastBytes (Number x) = 1 ∷ bytesFor 2 x
+
+abbrev pub lastBy : ℕ → ℕ → Last
+lastBy zero x = Unknown
+lastBy (suc n) x = Number x
+
+-- whether a line is begun (open)
+abbrev pub placeByte : Place → ℕ
+placeByte Shut = 0
+placeByte (At q) = 1
+
+abbrev pub placeBy : ℕ → ℕ → Place
+placeBy zero q = Shut
+placeBy (suc n) q = At q
+
+-- where a block stands, `kind`, and the 21 bytes of what is held of it differ between reader and writer
+unfoldable pub framed : ℕ → ℕ → ℕ → Last → Place → ℕ → List ℕ → Settings → List ℕ
+framed tag system mode last place kind held t =
+    tag ∷ system ∷ mode ∷ lastBytes last ++ (placeByte place ∷ kind ∷ bytesFor 8 (placeOf place) ++ (held ++ (settingsBytes t ++ (0 ∷ 0 ∷ []))))
+
+-- the fields of an image
+unfoldable pub lastIn : List ℕ → Last
+lastIn b = lastBy (getD b 3 0) (numberFrom (part 4 2 b))
+
+unfoldable pub placeIn : List ℕ → Place
+placeIn b = placeBy (getD b 6 0) (numberFrom (part 8 8 b))
+
+unfoldable pub heldIn : List ℕ → List ℕ
+heldIn b = part 16 21 b
