@@ -1,4 +1,4 @@
-"""What the rows of crates/heard/stdout have to hold, so that files cut short do not pass."""
+"""What the rows of harness/steps.c and of crates/heard/stdout have to hold, so that steps left out do not pass."""
 import itertools
 
 import allowance
@@ -13,9 +13,10 @@ from words import VARIABLE
 # What a line can be refused for beside 1: 3 to 16, of which 14 is no longer given
 FAULTS = (*range(3, 14), 15, 16)
 
-# Rows of each name, and events of each kind in each mode
-ROWS = {"close": 1255, "read": 2455, "room": 161, "opened": 2000, "added": 1340, "closed": 1010, "check": 1834, "crc": 172, "header": 30}
-ROWS |= {"state": 2590, "impossible": 620, "words": 200, "batched": 900, "under": 3000, "packed": 200, "listed": 300, "kinds": 256}
+# Rows of each name, of the calls from C and of `heard`; and events of each kind in each mode
+CALLS = {"close": 2950, "read": 3550, "room": 350, "opened": 2390, "added": 1370, "closed": 1390, "check": 2030, "state": 4190, "impossible": 760}
+CALLS |= {"words": 210, "batched": 990, "under": 3250, "packed": 400, "listed": 390}
+WORDS = {"crc": 172, "header": 30, "kinds": 256}
 EVENTS = {"begun": 300, "begun dropped": 15, "begun with an open block": 50, "block": 1000, "end": 400, "refused 1": 80, "refused 2": 30}
 EVENTS |= {f"drop {k}": 4 for k in range(1, 7)} | {f"refused {k}{how}": 1 for k in FAULTS for how in ("", " dropped")}
 
@@ -51,17 +52,27 @@ def check(scope):
     yield from (("good", *kind) for kind in itertools.product(scope.systems, (8, 9), (VARIABLE, 0x21), (0, 1)))
 
 
-def missing(scope, play):
-    """What the rows have to hold and do not."""
-    for name, n in ROWS.items():
+def few(play, least):
+    """Rows of a name that there are too few of."""
+    for name, n in least.items():
         if sum(row[0] == name for row in play.rows) < n:
             yield f"fewer than {n} rows {name}"
-    for mode, (name, n) in itertools.product((8, 9), EVENTS.items()):
-        if play.events[mode, name] < n:
-            yield f"fewer than {n} events {name} in mode {mode}"
+
+
+def missing_words(play):
+    """What the rows of `heard` have to hold and do not."""
+    yield from few(play, WORDS)
     for kind, n in LISTS.items():
         if play.seen["crc", kind] < n:
             yield f"fewer than {n} lists of kind and length {kind}"
+
+
+def missing_calls(scope, play):
+    """What the rows of the calls from C have to hold and do not."""
+    yield from few(play, CALLS)
+    for mode, (name, n) in itertools.product((8, 9), EVENTS.items()):
+        if play.events[mode, name] < n:
+            yield f"fewer than {n} events {name} in mode {mode}"
     for what in kinds.passed(play.seen):
         yield f"a short burst that is not refused with 15 or 16: {what}"
     asked = [kinds.asked(scope), lists.asked(scope), allowance.asked(), gap.asked(scope), nulls.asked()]

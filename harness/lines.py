@@ -2,14 +2,14 @@
 from states import BUFFER
 from words import FILLER, VARIABLE, byte_form, checksum, crc_of, made, opened_line, settings
 
-SAME, ANY, TEN_BITS, BYTE_FORM, DATA_FORM = 0, 2, 3, 8, 9  # kinds of words, as in crates/heard/src/made.rt
+SAME, ANY, TEN_BITS, BYTE_FORM, DATA_FORM = 0, 2, 3, 8, 9  # kinds of words, as over `made` in harness/steps.c
 
 
 # The CRC and the checksum
 
 
 def a_list(book, kind, count, seed):
-    book.step("Make", 0, count, kind, seed)
+    book.step("Room", 0, count, kind, seed)
     book.step("Sum", 0, count)
 
 
@@ -170,4 +170,4 @@ def checks(book):
         Checked(book, seed=k * 131250525 + 255, **kind_of(k)).check(11, 0x200, 2)  # the number was 256, and is 0
 
 
-PARTS = [lists, headers, fits, checks]
+WORDS, PARTS = [lists, headers], [fits, checks]  # the first for `heard`, the others for the calls from C

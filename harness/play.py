@@ -1,4 +1,4 @@
-"""The steps of crates/heard/stdin, played by the reader and the writer of 01. What a step does is said in crates/heard/src, where it is done."""
+"""Steps played by the reader and the writer of 01. What a step does is said where it is done: in harness/steps.c, crates/heard/src and harness/player."""
 import collections
 import sys
 
@@ -9,13 +9,13 @@ import nulls
 from allowance import read_within, seen_of
 from answers import answer
 from packets import listed
-from reader import IDLE, Reader, said
+from reader import IDLE, ROOM, Reader, said
 from states import BUFFER, COUNT, HEADING, READER, SETTINGS, WRITER, of_phase, to_numbers, to_reader, to_writer
 from words import VARIABLE, by_perl, by_python, byte_form, checksum, crc_of, crc_words, header, made, settings_by, word_of
 from writer import DONE, Writer
 
 STEPS = {"new", "open", "close", "words", "index", "data", "mix", "read", "view", "last", "at", "phase", "settings"}
-STEPS |= {"Put", "Tell", "Impossible", "Make", "Room", "Open", "Add", "Close", "Words", "Sum", "Header", "Line", "Batch", "under", "Gap", "Find", "Kinds"}
+STEPS |= {"Put", "Tell", "Impossible", "Make", "Room", "Open", "Add", "Close", "Words", "Sum", "Header", "Line", "Batch", "under", "Gap", "Find", "Kinds", "hear"}
 
 
 class Register:
@@ -35,7 +35,7 @@ def mixed(mode, u):
 
 
 def made_words(kind, count, seed):
-    """Words of a kind: the list in crates/heard/src/made.rt, written again."""
+    """Words of a kind: the list over `made` in harness/steps.c, written again."""
     make = {0: lambda u: seed, 2: lambda u: u, 3: lambda u: u & 0x3FF, 28: lambda u: u & 0xFF, 29: lambda u: u & 0x1FF}
     for mode in 8, 9:
         make[mode] = lambda u, mode=mode: word_of(mode, u)
@@ -120,7 +120,6 @@ class Play:
         self.lay(place, made_words(self.states[READER][1] + 10, count, seed))
 
     def big_make(self, index, count, kind, seed):
-        self.made = kind, count
         self.put_words(index, made_words(kind, count, seed))
 
     # The writer's calls
@@ -170,6 +169,7 @@ class Play:
         self.tell_call("closed", before, given, register)
 
     def big_room(self, index, count, kind, seed):
+        self.made = kind, count
         count = min(count, len(self.room) - index)
         self.room[index : index + count] = made_words(kind, count, seed)
 
@@ -233,6 +233,15 @@ class Play:
         self.states[READER] = to_numbers(reader)
         self.rows.append(row + state_text(reader))
 
+    def hear(self, length):
+        """A line to its end, a row for each event, as the listing writes it."""
+        reader, event = to_reader(self.scope, self.states[READER]), ("",)
+        lent = self.room[:ROOM]
+        while event[0] not in ("refused", "end"):
+            event = reader.read(self.line[:length], lent)
+            self.rows.append([said(event)])
+        self.room[:ROOM], self.states[READER] = lent, to_numbers(reader)
+
     def under(self, times, length, room, allowance, below):
         allowance = 2**64 - 1 - allowance if below else allowance
         row, reader = ["under"], to_reader(self.scope, self.states[READER])
@@ -277,7 +286,7 @@ class Play:
 
     def big_sum(self, index, count):
         """The register is Digest::CRC's, its words are crccheck's."""
-        words = self.line[index : index + count]
+        words = self.room[index : index + count]
         self.seen["crc", self.made] += self.made[1] == count
         self.rows.append(["crc", Register(words), *crc_words(by_python([words])[0]), checksum(words)])
 

@@ -1,4 +1,7 @@
-"""The steps of crates/heard/stdin: which lines are made and read. What a step does is said in crates/heard/src/play.rt and the files named there.
+"""The steps that are played, and computed again by play.py: which lines are made and read.
+
+CALLS are played through the calls from C, by harness/steps.c, where it is said what a step does. WORDS are played by the program `heard`,
+and stand in its file stdin: what no call from C hands out.
 
     /usr/bin/python3 -B harness/script.py > crates/heard/stdin
 """
@@ -299,17 +302,19 @@ def impossible(book):
         book.step("view")
 
 
-def script(scope):
-    """All the steps, as text."""
+HERE = [drops, long_blocks, phases, mixes, fixed, fixed_later, jumps, refusals, unfit, impossible]
+# A new part stands behind all others, so that the steps and rows there are stay as they are.
+CALLS = [*HERE, *(part for module in (lines, courses, put, edges, reserved, bursts, running, lists, under, gap, nulls) for part in module.PARTS)]
+WORDS = [*lines.WORDS, *classing.PARTS]
+
+
+def script(scope, parts):
+    """The steps of some parts, as text."""
     book = Book(scope)
-    for part in drops, long_blocks, phases, mixes, fixed, fixed_later, jumps, refusals, unfit, impossible:
-        part(book)
-    # A new part stands behind all others, so that the steps and rows there are stay as they are.
-    later = [lines, courses, put, edges, reserved, bursts, running, lists, under, gap, classing, nulls]
-    for part in [part for module in later for part in module.PARTS]:
+    for part in parts:
         part(book)
     return "".join(f"{step}\n" for step in book.steps)
 
 
 if __name__ == "__main__":
-    sys.stdout.write(script(Scope("../shared/01-scope.md", "harness/script.py")))
+    sys.stdout.write(script(Scope("../shared/01-scope.md", "harness/script.py"), WORDS))

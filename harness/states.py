@@ -1,4 +1,4 @@
-"""A state as 52 numbers, in the order that is said at the top of crates/heard/src/states.rt."""
+"""A state as 52 numbers, in the order that is said at the top of harness/steps.c."""
 from reader import IDLE, TYPE, Reader
 from writer import Writer
 

@@ -54,7 +54,7 @@ def block_words(kind, data):
 
 
 def made(seed, count):
-    """Numbers of sixteen bits: the rule at the top of crates/heard/src/made.rt, written again."""
+    """Numbers of sixteen bits: the rule over `next` in harness/steps.c, written again."""
     numbers, x = [], seed
     for _ in range(count):
         x = (x * 1664525 + 1013904223) & 0xFFFFFFFF

@@ -1,5 +1,5 @@
 // The classes of numbers: whatever number a word is, by the table and by the forms.
-use crate::rows;
+use crate::out;
 use crate::steps;
 use words::class;
 use words::class::Class;
@@ -47,42 +47,21 @@ fn digit_at(n: u64) -> u8 {
     a
 }
 
-// The digits of 4 numbers, of 16, of 64 and of 256, the first of which is a multiple of so many.
-fn put_four(n: u64) {
-    rows::say(
-        &[
-            digit_at(n),
-            digit_at(n | 1),
-            digit_at(n | 2),
-            digit_at(n | 3),
-        ],
-    );
+// The digits of the numbers from one to before another.
+fn put_digits(from: u64, to: u64) {
+    let mut i = from;
+    while i < to {
+        out::say(&[digit_at(i)]);
+        i += 1;
+    }
 }
 
-fn put_sixteen(n: u64) {
-    put_four(n);
-    put_four(n | 4);
-    put_four(n | 8);
-    put_four(n | 12);
-}
-
-fn put_sixty_four(n: u64) {
-    put_sixteen(n);
-    put_sixteen(n | 16);
-    put_sixteen(n | 32);
-    put_sixteen(n | 48);
-}
-
-// `Kinds FROM`, row `kinds FROM DIGITS`: the classes of 256 numbers, FROM being a multiple of 256: 1 byte form, 2 other data form, 3 separator,
-// 4 end code, 5 illegal, 6 the null word 100h.
+// `Kinds FROM`, row `kinds FROM DIGITS`: the classes of 256 numbers: 1 byte form, 2 other data form, 3 separator, 4 end code, 5 illegal, 6 the null word 100h.
 pub(crate) fn kinds(ns: &[u64]) {
-    let n = steps::at(ns, 0);
-    rows::say(b"kinds");
-    rows::put(n);
-    rows::say(b" ");
-    put_sixty_four(n);
-    put_sixty_four(n | 64);
-    put_sixty_four(n | 128);
-    put_sixty_four(n | 192);
-    rows::say(b"\n");
+    let n = steps::at(ns, 0) % 65536;
+    out::say(b"kinds");
+    out::put(n);
+    out::say(b" ");
+    put_digits(n, n + 256);
+    out::say(b"\n");
 }
