@@ -1,8 +1,8 @@
 // A line checked, and the packets of its gap listed. No state is asked.
 use crate::buffers;
 use images::fields;
-use line::check;
 use line::check::Checked;
+use linecheck::check;
 use packets::list;
 use packets::list::Listed;
 ghost use mathlib.Core.Path.{_≡_};

@@ -1,5 +1,5 @@
 // Eight lines read by a fresh reader, or checked alone.
-use line::check;
+use linecheck::check;
 use reader::read;
 use reader::state;
 use reader::state::Event;

@@ -3,8 +3,8 @@
 use crate::fill;
 use crate::packet;
 use crate::packet::Look;
-use line::check;
 use line::systems;
+use linecheck::check;
 ghost use mathlib.Core.Path.{_≡_};
 ghost use Prim.Native.Nat.{_+_, _≤_};
 ghost use lib.ListN.{length};

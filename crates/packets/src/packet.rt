@@ -1,6 +1,5 @@
 // One packet: what stands at the front of the words that are lent, and the words of a packet, laid.
 use crate::fill;
-use line::head;
 use words::checksum;
 use words::forms;
 ghost use mathlib.Core.Path.{_≡_};
@@ -42,7 +41,7 @@ fn fault_at(gap: &[u16]) -> u8
         return 21;
     }
     let sum = checksum::checksum_of(&gap[3..end]);
-    let formed = head::all_byte(&gap[3..6]) & head::all_data(&gap[6..long]);
+    let formed = line::forms::all_byte(&gap[3..6]) & line::forms::all_data(&gap[6..long]);
     let r23 = lists::or_else(gap[end] != sum, 23, 0);
     lists::or_else(!formed, 22, r23)
 }
