@@ -1,4 +1,4 @@
-"""Steps played by the reader and the writer of 01. What a step does is said where it is done: in harness/steps.c, crates/heard/src and harness/player."""
+"""Steps played by the reader and the writer of 01. What a step does is said where it is done: in harness/steps.c, crates/heard/src and crates/player/src."""
 import collections
 import sys
 
