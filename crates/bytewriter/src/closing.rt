@@ -1,7 +1,7 @@
 // A line closed, lent as bytes: with flag 01h its last two words are written, else none.
 use crate::lent;
 use crate::opening;
-use writer::opening::Reply;
+use lines::opening::Reply;
 use writer::state::Answer;
 use writer::state::Writer;
 ghost use mathlib.Core.Path.{_≡_};
@@ -29,7 +29,7 @@ pub fn close_line(w: Writer, line: &mut [u8]) -> Reply
     }
     let long = line.len() / 2;
     let mut words = [0u16; 2304];
-    let r = writer::closing::close_line(w, &mut words[..long]);
+    let r = lines::closing::close_line(w, &mut words[..long]);
     let answer = r.answer;
     let k = behind_area(w.settings.flag);
     let start = lists::minus_or_zero(long, k);

@@ -1,7 +1,7 @@
 // A line opened, lent as bytes: all its words are written, so none is converted before.
 use crate::lent;
 use line::settings::Settings;
-use writer::opening::Reply;
+use lines::opening::Reply;
 use writer::state::Answer;
 use writer::state::Writer;
 ghost use mathlib.Core.Path.{_≡_};
@@ -31,7 +31,7 @@ pub fn open_line(w: Writer, f: bool, v: bool, n: u16, t: Settings, line: &mut [u
     }
     let long = line.len() / 2;
     let mut words = [0u16; 2304];
-    let r = writer::opening::open_line(w, f, v, n, t, &mut words[..long]);
+    let r = lines::opening::open_line(w, f, v, n, t, &mut words[..long]);
     let answer = r.answer;
     let laid = done_in(answer, long);
     lent::give_back(&words[..long], 0, 0, laid, line);

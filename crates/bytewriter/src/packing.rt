@@ -1,7 +1,7 @@
 // A packet added in the gap, its words and the line lent as bytes.
 use crate::lent;
 use crate::values;
-use writer::opening::Reply;
+use lines::opening::Reply;
 use writer::state::Answer;
 use writer::state::Writer;
 ghost use mathlib.Core.Path.{_≡_};
@@ -20,7 +20,7 @@ fn pack_few(w: Writer, did: u8, second: u8, values: &[u8], line: &mut [u16]) -> 
     let n = values.len() / 2;
     let mut vs = [0u16; 256];
     octets::words_of(values, &mut vs);
-    writer::packing::add_packet(w, did, second, &vs[..n], line)
+    lines::packing::add_packet(w, did, second, &vs[..n], line)
 }
 
 // Too many: 1, 2, 17 or 18, whichever is lowest. Of the words only 17 asks, so others as long stand for them.
@@ -30,7 +30,7 @@ fn pack_too_many(w: Writer, did: u8, second: u8, values: &[u8], line: &mut [u16]
 {
     let mut vs = [0u16; 256];
     vs[0] = values::stand_in(512, values);
-    writer::packing::add_packet(w, did, second, &vs, line)
+    lines::packing::add_packet(w, did, second, &vs, line)
 }
 
 fn pack_valued(w: Writer, did: u8, second: u8, values: &[u8], line: &mut [u16]) -> Reply

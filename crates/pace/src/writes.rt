@@ -1,10 +1,10 @@
 // Eight lines written: each is opened, filled with blocks, by single calls or in one list, and closed. In jobs e and f only the first is opened and filled, once, and each is
 // closed in the state that the first was in.
 use crate::jobs;
+use lines::closing;
+use lines::opening;
 use writer::adding;
 use writer::batch;
-use writer::closing;
-use writer::opening;
 use writer::state::Laid;
 use writer::state::Writer;
 

@@ -3,10 +3,10 @@
 use crate::steps;
 use libc::STDOUT_FILENO;
 use line::settings::Settings;
+use lines::closing;
+use lines::opening;
 use words::crc;
 use writer::adding;
-use writer::closing;
-use writer::opening;
 use writer::state;
 use writer::state::Answer;
 use writer::state::Laid;

@@ -2,16 +2,15 @@
 -- Assumes nothing.
 use mathlib.Core.Path.{_≡_, refl, sym, ap, _∙_}
 use mathlib.Core.Bool.{Bool, true, false}
-use mathlib.Core.List.{List, [], _∷_, map}
+use mathlib.Core.List.{List}
 use Prim.Native.Nat.{ℕ, _+_, _≤_, _<_}
 use native.Mathlib.Omega.{arith}
-use lib.ListN.{length, length-append, length-map}
+use lib.ListN.{length}
 use Rattle.lists.specs.Tests.{pick}
 use Rattle.lists.proofs.Tests.{pick-true, pick-false}
-use Rattle.words.specs.Modes.{wordOf}
-use Rattle.words.specs.Class.{endCode}
 use Rattle.line.specs.Fixed.{isVariable}
-use Rattle.writer.specs.Block.{countWords, blockWords, fixedWords, wordsIn}
+use Rattle.writer.specs.Block.{blockWords, fixedWords, wordsIn}
+pub use Rattle.blocks.proofs.Lengths.{block-long, fixed-long}
 
 pub words-variable : (block mode kind : ℕ) (vs : List ℕ) → isVariable block ≡ true → wordsIn block mode kind vs ≡ blockWords mode kind vs
 unfolding wordsIn
@@ -20,14 +19,6 @@ words-variable block mode kind vs v = pick-true _ _ v
 pub words-fixed : (block mode kind : ℕ) (vs : List ℕ) → isVariable block ≡ false → wordsIn block mode kind vs ≡ fixedWords mode kind vs
 unfolding wordsIn
 words-fixed block mode kind vs v = pick-false _ _ v
-
-pub block-long : (mode kind : ℕ) (vs : List ℕ) → length (blockWords mode kind vs) ≡ length vs + 7
-unfolding blockWords countWords
-block-long mode kind vs = let a = length-append (map (wordOf mode) vs) (endCode ∷ []) in let b = length-map vs (wordOf mode) in omega arith
-
-pub fixed-long : (mode kind : ℕ) (vs : List ℕ) → length (fixedWords mode kind vs) ≡ length vs + 1
-unfolding fixedWords
-fixed-long mode kind vs = let b = length-map vs (wordOf mode) in omega arith
 
 -- how many words a block of n values has
 unfoldable pub count : ℕ → ℕ → ℕ

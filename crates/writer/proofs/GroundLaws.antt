@@ -11,6 +11,8 @@ use borrow.Rule.Slice.PartMut.{putMid}
 use Rattle.lists.specs.Tests.{when, lowestOf}
 use Rattle.lists.proofs.Refusals.{LowestOf, low-miss, lowest-append, lowest-clear, found-first}
 use Rattle.words.specs.Crc.{crcOf}
+use Rattle.blocks.specs.Laid.{laidIn, crcIn}
+use Rattle.blocks.proofs.LaidLaws.{fills, part-laid}
 use Rattle.line.specs.Fixed.{isVariable, sizeOf}
 use Rattle.line.proofs.SystemLaws.{length-most}
 use Rattle.course.specs.declared.Place.the-variants.{At}
@@ -28,7 +30,8 @@ use Rattle.writer.specs.Block.{blockWords, fixedWords}
 use Rattle.writer.specs.Adding.{valued, illShaped, isFull, isOther, addFaults, addFault, adding}
 use Rattle.writer.specs.Batch.{batchFaults, batchFault}
 use Rattle.writer.specs.Ground.{heldBy, Grounds, Stands, blockFaults, IsStep, filled}
-use Rattle.writer.proofs.BlockLaws.{count-variable}
+use Rattle.writer.proofs.FillLaws.{part-most, part-whole}
+use Rattle.writer.proofs.BlockLaws.{count-variable, fixed-long}
 use Rattle.writer.proofs.Refusals.{can-add}
 use Rattle.writer.proofs.Calls.{Found, place-found, place-done, part-whole-done, part-cut-done}
 
@@ -165,3 +168,18 @@ pub place-step : {g : Ground} {h : Held} (line : List ℕ) (kind : ℕ) (vs : Li
 place-step {g} {h} line kind vs clear v p hp ys c e hc s is w k =
     ap (λ (x : Step). added (x .answer) (heldBy w (x .held)) (putMid (g .start + p) (g .start + p + (length vs + 1) - (g .start + p)) line ys)) is
     ∙ place-done (place-stands line k kind vs clear v p hp) (varies-by k v) ys c _ (e ∙ ap (λ (m : ℕ). fixedWords m kind vs) (k .grounds .mode)) hc refl
+
+-- ---- the words that fill the part of a line that is lent to be filled
+pub part-filled : (line : List ℕ) (a k mode kind j c r : ℕ) (vs ys : List ℕ) → j < length vs + 7 → k ≤ length vs + 7 - j
+    → let out = take (a + k - a) (drop a line) in let ws = take (length out) (drop j (blockWords mode kind vs)) in
+    (ys ≡ laidIn ws out) × (r ≡ crcIn c ws out) → (ys ≡ ws) × (r ≡ crcOf c ys)
+part-filled line a k mode kind j c r vs ys some few laid =
+    let most = part-most line a k in
+    part-laid mode kind j c r vs (take (a + k - a) (drop a line)) ys (omega (arith, some, few, most)) laid
+
+pub place-filled : (line : List ℕ) (a mode kind c r : ℕ) (vs ys : List ℕ) → a + (length vs + 1) ≤ length line
+    → let out = take (a + (length vs + 1) - a) (drop a line) in
+    (ys ≡ laidIn (fixedWords mode kind vs) out) × (r ≡ crcIn c (fixedWords mode kind vs) out) → (ys ≡ fixedWords mode kind vs) × (r ≡ crcOf c ys)
+place-filled line a mode kind c r vs ys within laid =
+    fills (fixedWords mode kind vs) (take (a + (length vs + 1) - a) (drop a line)) c r ys
+    (fixed-long mode kind vs ∙ sym (part-whole line a (length vs + 1) within)) laid

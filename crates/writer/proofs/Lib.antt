@@ -1,7 +1,6 @@
 pub mod StateLaws
 pub mod FillLaws
 pub mod BlockLaws
-pub mod Frame
 pub mod Refusals
 pub mod Calls
 pub mod GroundLaws

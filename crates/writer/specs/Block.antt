@@ -1,28 +1,11 @@
--- The words of a block.
+-- The words of a block, by the block type of the line.
 -- Assumes nothing.
-use Prim.Native.Nat.{ℕ, _/_, _%_}
-use mathlib.Core.List.{List, [], _∷_, _++_, map}
-use lib.ListN.{length}
+use Prim.Native.Nat.{ℕ}
+use mathlib.Core.List.{List}
 use Rattle.lists.specs.Tests.{pick}
-use Rattle.words.specs.Forms.{byteWord}
-use Rattle.words.specs.Modes.{wordOf}
-use Rattle.words.specs.Class.{separator, endCode}
 use Rattle.line.specs.Fixed.{isVariable}
+unfoldable pub use Rattle.blocks.specs.Block.{countWords, blockWords, fixedWords}
 
--- count of data words as four byte-form words, lowest byte first
-unfoldable pub countWords : ℕ → List ℕ
-countWords n = byteWord (n % 256) ∷ byteWord (n / 256 % 256) ∷ byteWord (n / 65536 % 256) ∷ byteWord (n / 16777216 % 256) ∷ []
-
--- A block is 309h, type (byte form), count, the data, 30Ah: n+7 words.
-unfoldable pub blockWords : ℕ → ℕ → List ℕ → List ℕ
-unfolding countWords
-blockWords mode kind values = separator ∷ byteWord kind ∷ countWords (length values) ++ (map (wordOf mode) values ++ (endCode ∷ []))
-
--- a place of a fixed line: type and data
-unfoldable pub fixedWords : ℕ → ℕ → List ℕ → List ℕ
-fixedWords mode kind values = byteWord kind ∷ map (wordOf mode) values
-
--- by the block type of the line
 unfoldable pub wordsIn : ℕ → ℕ → ℕ → List ℕ → List ℕ
 unfolding blockWords fixedWords
 wordsIn block mode kind values = pick (isVariable block) (blockWords mode kind values) (fixedWords mode kind values)

@@ -1,9 +1,9 @@
 // Adding a block: as much of it as fits is laid, and the CRC taken on over it; the next call lends the same block again.
-use crate::block;
 use crate::state;
 use crate::state::Laid;
 use crate::state::Rest;
 use crate::state::Writer;
+use blocks::block;
 use course::Place;
 use line::check;
 use line::systems;
@@ -63,7 +63,7 @@ fn is_valued(mode: u8, values: &[u16]) -> bool
 }
 
 // Each value is below the limit. Every value is looked at, so that the loop has no early exit.
-pub(crate) fn all_below(limit: u16, s: &[u16]) -> bool
+pub fn all_below(limit: u16, s: &[u16]) -> bool
     ensures { λ r. ⌜ r ≡ each (λ v. ltb v limit) (now (s .entry)) ⌝ }
 {
     let mut ok = true;
@@ -88,7 +88,7 @@ fn is_ill_shaped(place: Place, block: u8, size: u16, kind: u16, n: usize) -> boo
 }
 
 // No place (variable: word) left in the open line.
-pub(crate) fn is_full(end: usize, place: Place) -> bool
+pub fn is_full(end: usize, place: Place) -> bool
     ensures { λ r. ⌜ r ≡ isFull end place ⌝ }
 {
     match place {

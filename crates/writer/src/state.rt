@@ -7,7 +7,7 @@ use packets::list;
 use words::crc;
 ghost use mathlib.Core.Path.{_≡_};
 ghost use mathlib.Core.Bool.{_||_};
-ghost use Rattle.writer.specs.State.{isPart, laidOf, fresh, misshapen, overlong, overfull, impossible, endIn, openState, moved, usedTo};
+ghost use Rattle.writer.specs.State.{isPart, laidOf, fresh, misshapen, overlong, overfull, impossible, endIn, moved};
 
 // An unfinished block: its type, n and the words laid (1 to n+6).
 pub enum Rest {
@@ -57,25 +57,8 @@ pub fn fresh_writer(system: u8, mode: u8) -> Writer
     }
 }
 
-// The state of an opened line, at its first word, none laid and none of the gap used.
-pub(crate) fn opened(w: Writer, n: u16, t: Settings) -> Writer
-    ensures { λ r. ⌜ r ≡ openState w n t ⌝ }
-{
-    let rest = w.rest;
-    Writer {
-        system: w.system,
-        mode: w.mode,
-        last: Last::Number(n),
-        settings: t,
-        place: Place::At(0),
-        rest: rest,
-        crc: crc::CRC_START,
-        used: 0,
-    }
-}
-
 // The state with another place, rest and CRC.
-pub(crate) fn moved(w: Writer, place: Place, rest: Rest, crc: u32) -> Writer
+pub fn moved(w: Writer, place: Place, rest: Rest, crc: u32) -> Writer
     ensures { λ r. ⌜ r ≡ moved w place rest crc ⌝ }
 {
     let last = w.last;
@@ -89,26 +72,6 @@ pub(crate) fn moved(w: Writer, place: Place, rest: Rest, crc: u32) -> Writer
         rest: rest,
         crc: crc,
         used: w.used,
-    }
-}
-
-// The state with more words of the gap used.
-pub(crate) fn used_to(w: Writer, used: u16) -> Writer
-    ensures { λ r. ⌜ r ≡ usedTo w used ⌝ }
-{
-    let last = w.last;
-    let settings = w.settings;
-    let place = w.place;
-    let rest = w.rest;
-    Writer {
-        system: w.system,
-        mode: w.mode,
-        last: last,
-        settings: settings,
-        place: place,
-        rest: rest,
-        crc: w.crc,
-        used: used,
     }
 }
 

@@ -10,10 +10,9 @@ use Rattle.line.specs.Fixed.{isVariable}
 use Rattle.writer.specs.declared.state.Writer.{Writer}
 use Rattle.writer.specs.Adding.{addFault}
 use Rattle.writer.specs.Ground.{Stands, heldBy, blockFaults}
-use Rattle.writer.proofs.FillLaws.{part-whole}
 use Rattle.writer.proofs.Calls.{Found, sizes, add-refused}
 use Rattle.writer.proofs.NumberLaws.{adds-numbered}
-use Rattle.writer.proofs.GroundLaws.{early-fault, stands-in, fault-by, size-by, step-told, place-stands, place-step}
+use Rattle.writer.proofs.GroundLaws.{early-fault, stands-in, fault-by, size-by, step-told, place-stands, place-step, place-filled}
 use borrow.Author.Needs.{needs}
 use Rattle.writer.proofs.adding.add_block.Statement.{statement}
 use Rattle.writer.proofs.adding.add_block.Tie as tie
@@ -100,12 +99,6 @@ mul-lay-place c = let z = sizes (found (c .before)) in omega (arith, z .within, 
 part-lay-place-end : tie.Need-part-lay-place-end
 part-lay-place-end c = let z = sizes (found (c .before)) in omega (arith, z .within, z .short, z .ends)
 
-lay-place-requires : tie.Need-lay-place-requires
-lay-place-requires c κs =
-    let q = c .before .before in
-    let h = q .before .before .before .before .before in
-    part-whole (h .before .before .before .before .before .before .args .line .now) _ _ (sizes (found q) .within)
-
 add-placed : tie.Need-add-placed
 add-placed c = let z = sizes (found (c .before .before .before .before .before)) in omega (arith, z .ends)
 
@@ -115,10 +108,12 @@ returns-4 c =
     let l = d .before .before .before in
     let q = l .before .before .before in
     let h = q .before .before .before .before .before in
-    let a = h .before .before .before .before .before .before .args in
+    let k = h .before .before .before in
+    let a = k .before .before .before .args in
+    let on = place-filled (a .line .now) (k .ask .result .ground .start + q .place-of .result) (k .ask .result .ground .mode) (a .kind) (h .held-in .result .crc) _ (a .values .now) _ (sizes (found q) .within) (l .lay-place .ensures) in
     adds-numbered (a .w) (a .line .now) (a .kind) (a .values .now) _
     (step-told (a .line .now) (a .kind) (a .values .now) (d .placed .result) _ (stands h) (h .held-in .ensures)
-    (place-step (a .line .now) (a .kind) (a .values .now) (clear q) (fixed q) _ (q .place-of .ensures) _ _ (l .lay-place .ensures .0) (l .lay-place .ensures .1) _ (d .placed .ensures))
+    (place-step (a .line .now) (a .kind) (a .values .now) (clear q) (fixed q) _ (q .place-of .ensures) _ _ (on .0) (on .1) _ (d .placed .ensures))
     _ _ (c .told2 .ensures .0) (c .told2 .ensures .1))
 
 pub add-block-spec : {M : Type 1} → statement M
@@ -128,6 +123,6 @@ add-block-spec =
     returns-2 (need tie.Need-is-variable-requires (λ c κs. search needs)) lay-part-requires (need tie.Need-told-requires (λ c κs. search needs))
     (need tie.Need-same-length (λ c. search needs)) returns-3 (need tie.Need-place-of-requires (λ c κs. search needs))
     (need tie.Need-add-k (λ c. search needs)) add-a add-e mul-lay-place (need tie.Need-sub-lay-place (λ c. search needs))
-    (need tie.Need-part-lay-place-start (λ c. search needs)) part-lay-place-end lay-place-requires add-placed
+    (need tie.Need-part-lay-place-start (λ c. search needs)) part-lay-place-end (need tie.Need-lay-place-requires (λ c κs. search needs)) add-placed
     (need tie.Need-placed-requires (λ c κs. search needs)) (need tie.Need-told-requires-2 (λ c κs. search needs))
     (need tie.Need-same-length-2 (λ c. search needs)) returns-4)

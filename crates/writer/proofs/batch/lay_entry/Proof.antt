@@ -8,9 +8,8 @@ use lib.ListN.{length}
 use Rattle.lists.specs.Tests.{lowestOf}
 use Rattle.line.specs.Fixed.{isVariable}
 use Rattle.writer.specs.Ground.{heldBy, blockFaults}
-use Rattle.writer.proofs.FillLaws.{part-whole}
 use Rattle.writer.proofs.Calls.{Found, sizes, add-refused}
-use Rattle.writer.proofs.GroundLaws.{size-by, fault-by, place-stands, place-step}
+use Rattle.writer.proofs.GroundLaws.{size-by, fault-by, place-stands, place-step, place-filled}
 use borrow.Author.Needs.{needs}
 use Rattle.writer.proofs.batch.lay_entry.Statement.{statement}
 use Rattle.writer.proofs.batch.lay_entry.Tie as tie
@@ -62,11 +61,6 @@ mul-lay-place c = let z = sizes (found (c .before)) in omega (arith, z .within, 
 part-lay-place-end : tie.Need-part-lay-place-end
 part-lay-place-end c = let z = sizes (found (c .before)) in omega (arith, z .within, z .short, z .ends)
 
-lay-place-requires : tie.Need-lay-place-requires
-lay-place-requires c κs =
-    let q = c .before .before in
-    part-whole (q .before .before .before .before .before .before .before .args .line .now) _ _ (sizes (found q) .within)
-
 add-placed : tie.Need-add-placed
 add-placed c = let z = sizes (found (c .before .before .before .before .before)) in omega (arith, z .ends)
 
@@ -75,7 +69,8 @@ returns-3 c w s =
     let l = c .before .before .before in
     let q = l .before .before .before in
     let a = q .before .before .before .before .before .before .before .args in
-    place-step (a .line .now) (a .kind) (a .values .now) (clear (q .before .before .before)) (fixed q) _ (q .place-of .ensures) _ _ (l .lay-place .ensures .0) (l .lay-place .ensures .1) _ (c .placed .ensures) w s
+    let on = place-filled (a .line .now) (a .g .start + q .place-of .result) (a .g .mode) (a .kind) (a .h .crc) _ (a .values .now) _ (sizes (found q) .within) (l .lay-place .ensures) in
+    place-step (a .line .now) (a .kind) (a .values .now) (clear (q .before .before .before)) (fixed q) _ (q .place-of .ensures) _ _ (on .0) (on .1) _ (c .placed .ensures) w s
 
 pub lay-entry-spec : {M : Type 1} → statement M
 lay-entry-spec =
@@ -83,5 +78,5 @@ lay-entry-spec =
     block-fault-requires returns (need tie.Need-is-variable-requires (λ c κs. search needs)) lay-part-requires
     (need tie.Need-same-length (λ c. search needs)) returns-2 (need tie.Need-place-of-requires (λ c κs. search needs))
     (need tie.Need-add-k (λ c. search needs)) add-a add-e mul-lay-place (need tie.Need-sub-lay-place (λ c. search needs))
-    (need tie.Need-part-lay-place-start (λ c. search needs)) part-lay-place-end lay-place-requires add-placed
+    (need tie.Need-part-lay-place-start (λ c. search needs)) part-lay-place-end (need tie.Need-lay-place-requires (λ c κs. search needs)) add-placed
     (need tie.Need-placed-requires (λ c κs. search needs)) (need tie.Need-same-length-2 (λ c. search needs)) returns-3)

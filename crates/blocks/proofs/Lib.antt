@@ -1,0 +1,3 @@
+pub mod FillLaws
+pub mod Lengths
+pub mod LaidLaws

@@ -1,0 +1,2 @@
+mod Frame
+mod GapFiller
