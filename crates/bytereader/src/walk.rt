@@ -10,7 +10,6 @@ use machine::step::Step;
 use machine::walk;
 use machine::walk::Walked;
 use words::class;
-use words::class::Class;
 use words::forms;
 ghost use mathlib.Core.Path.{_≡_};
 ghost use mathlib.Core.Bool.{true};
@@ -18,7 +17,6 @@ ghost use Prim.Native.Nat.{_<_};
 ghost use lib.ListN.{length};
 ghost use Rattle.octets.specs.Bytes.{wordsOf};
 ghost use Rattle.words.specs.Modes.{valueOf};
-ghost use Rattle.words.specs.Class.{classOf};
 ghost use Rattle.machine.specs.Machine.{stepOf};
 ghost use Rattle.machine.specs.Walk.{leaves, collectedOf, stored, walkOf};
 
@@ -32,23 +30,12 @@ fn put_value(keeps: bool, m: usize, v: u16, room: &mut [u8])
     }
 }
 
-// The class of a word at which a run, or a head, stops. 30Ah is known by itself, because it ends every block; any other such word is rare, and the table says
-// its class.
-fn class_at(w: u16) -> Class
-    ensures { λ r. ⌜ r ≡ classOf w ⌝ }
-{
-    if w == class::END_CODE {
-        return Class::Ending;
-    }
-    class::class_of(w)
-}
-
 // One word: what it does, and its value into the room if it is kept.
 fn take_word(mode: u8, phase: Phase, w: u16, room: &mut [u8]) -> Step
     ensures { λ r. ⌜ (r ≡ stepOf mode (length (wordsOf (now (room .entry)))) phase w)
         × (wordsOf (now (room .exit)) ≡ stored (r .keeps) (collectedOf phase) (valueOf mode w) (wordsOf (now (room .entry)))) ⌝ }
 {
-    let s = step::step_by(class_at(w), mode, room.len() / 2, phase, w);
+    let s = step::step_by(class::class_of(w), mode, room.len() / 2, phase, w);
     put_value(
         s.keeps,
         phase::collected_of(phase),

@@ -8,14 +8,12 @@ use crate::step;
 use crate::step::Met;
 use crate::step::Step;
 use words::class;
-use words::class::Class;
 use words::forms;
 ghost use mathlib.Core.Path.{_≡_};
 ghost use mathlib.Core.Bool.{true};
 ghost use Prim.Native.Nat.{_<_};
 ghost use lib.ListN.{length};
 ghost use Rattle.words.specs.Modes.{valueOf};
-ghost use Rattle.words.specs.Class.{classOf};
 ghost use Rattle.machine.specs.Machine.{stepOf};
 ghost use Rattle.machine.specs.Phases.{phaseNumbers};
 ghost use Rattle.machine.specs.Walk.{leaves, isNothing, collectedOf, stored, walkOf};
@@ -49,23 +47,12 @@ fn put_value(keeps: bool, m: usize, v: u16, room: &mut [u16])
     }
 }
 
-// The class of a word at which a run, or a head, stops. 30Ah is known by itself, because it ends every block; any other such word is rare, and the
-// table says its class.
-fn class_at(w: u16) -> Class
-    ensures { λ r. ⌜ r ≡ classOf w ⌝ }
-{
-    if w == class::END_CODE {
-        return Class::Ending;
-    }
-    class::class_of(w)
-}
-
 // One word: what it does, and its value into the room if it is kept.
 fn take_word(mode: u8, phase: Phase, w: u16, room: &mut [u16]) -> Step
     ensures { λ r. ⌜ (r ≡ stepOf mode (length (now (room .entry))) phase w)
         × (now (room .exit) ≡ stored (r .keeps) (collectedOf phase) (valueOf mode w) (now (room .entry))) ⌝ }
 {
-    let s = step::step_by(class_at(w), mode, room.len(), phase, w);
+    let s = step::step_by(class::class_of(w), mode, room.len(), phase, w);
     put_value(
         s.keeps,
         phase::collected_of(phase),

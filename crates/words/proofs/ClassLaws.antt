@@ -54,32 +54,9 @@ module _ (w : ℕ) where
   unfolding classOf pick
   class-byte b = simp b
 
-  module _ (b : isByte w ≡ false) where
-    pub class-null : eqb w nullWord ≡ true → classOf w ≡ Null
-    unfolding classOf pick
-    class-null z = simp (b, z)
-
-    module _ (z : eqb w nullWord ≡ false) where
-      pub class-other : isData w ≡ true → classOf w ≡ Other
-      unfolding classOf pick
-      class-other d = simp (b, z, d)
-
-      pub class-separator : isData w ≡ false → eqb w separator ≡ true → classOf w ≡ Separator
-      unfolding classOf pick
-      class-separator d s = simp (b, z, d, s)
-
-      pub class-ending : isData w ≡ false → eqb w separator ≡ false → eqb w endCode ≡ true → classOf w ≡ Ending
-      unfolding classOf pick
-      class-ending d s e = simp (b, z, d, s, e)
-
-      pub class-illegal : isData w ≡ false → eqb w separator ≡ false → eqb w endCode ≡ false → classOf w ≡ Illegal
-      unfolding classOf pick
-      class-illegal d s e = simp (b, z, d, s, e)
-
--- 30Ah itself
-pub end-class : classOf endCode ≡ Ending
-unfolding classOf isByte isData pick
-end-class = refl
+  pub class-illegal : isByte w ≡ false → eqb w nullWord ≡ false → isData w ≡ false → eqb w separator ≡ false → eqb w endCode ≡ false → classOf w ≡ Illegal
+  unfolding classOf pick
+  class-illegal b z d s e = simp (b, z, d, s, e)
 
 -- ---- 309h and 30Ah by the class: what is in byte form is in data form, and a code is not
 never : {A : Type 0} → true ≡ false → A
