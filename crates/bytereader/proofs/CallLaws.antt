@@ -3,10 +3,11 @@
 use mathlib.Core.Path.{_≡_, refl, sym, ap, ap₂, _∙_}
 use mathlib.Core.Bool.{Bool, true, false, _&&_}
 use mathlib.Core.List.{List}
-use Prim.Native.Nat.{ℕ, _/_, _%_, _<_, _≤_}
+use Prim.Native.Nat.{ℕ, _+_, _/_, _%_, _<_, _≤_, min}
 use native.Mathlib.Omega.{arith}
 use lib.Dec.{eqb}
-use lib.ListN.{length, getD}
+use lib.ListN.{length, getD, take, drop}
+use lib.Seq.{length-take-le, take-all, take-append-le, paste}
 use borrow.Author.Tests.{eqb-true}
 use Rattle.lists.specs.Tests.{pick}
 use Rattle.lists.proofs.Tests.{both-true, pick-true, pick-false}
@@ -36,6 +37,15 @@ pub line-small : (st : Reader) (line room : List ℕ) → readFault st (length l
 line-small st line room e =
     let f = fitting (st .system) (st .mode) line (ready capacity st line room e .fit) in
     omega (arith, f .long, length-most (st .system))
+
+-- words pasted in front
+pub front-words : (d ws : List ℕ) (n : ℕ) → n ≡ length ws → length ws ≤ length d → take n (paste d 0 ws (min (length ws) (length d))) ≡ ws
+front-words d ws n e h =
+    let k : min (length ws) (length d) ≡ n = omega arith in
+    ap (λ (j : ℕ). take n (paste d 0 ws j)) k
+    ∙ take-append-le n (take n ws) (drop (0 + n) d) (omega (arith, length-take-le n ws (omega arith)))
+    ∙ take-all n (take n ws) (omega (arith, length-take-le n ws (omega arith)))
+    ∙ take-all n ws (omega arith)
 
 module _ (st : Reader) (line room : List ℕ) where
   -- neither 1 nor 2

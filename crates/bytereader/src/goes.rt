@@ -1,6 +1,6 @@
 // A call on a begun line: what it asks, the walk from the place in the line, and what is told of it.
-use crate::places;
-use crate::walk;
+use bytewalks::places;
+use bytewalks::walk;
 use course::Place;
 use line::fixed;
 use line::systems;
@@ -58,7 +58,7 @@ fn walk_from(st: Reader, end: usize, size: u16, q: usize, line: &[u8], room: &mu
     if fixed::is_variable(settings.block) {
         return walk::walk(st.mode, phase, &line[i..e], room);
     }
-    places::walk_places(st.mode, phase, size as usize, &line[i..e], room)
+    places::walk_fixed(st.mode, phase, size as usize, &line[i..e], room)
 }
 
 // Goes on from place q.

@@ -1,10 +1,5 @@
 // The reading calls on a line and a room that are lent as bytes, two bytes a word, low byte first. Nothing is copied whole but a line that is begun: a call on a
 // begun line looks at the words that it walks over, and writes the places of the room that it fills.
-mod pairs; // pairs.rt: words in bytes
-mod runs; // runs.rt: words that report nothing, taken at once
-mod heads; // heads.rt: a whole head of a block, taken at once
-mod walk; // walk.rt: the machine over words, to the first report
-mod places; // places.rt: the places of a fixed line
 mod goes; // goes.rt: a call on a begun line
 
 use course::Place;

@@ -167,3 +167,27 @@ head-led mode p ws room = go (headOf (length room) p ws) refl
         let b = both-true (not (isBusy p)) (headStands (length room) ws) e in
         ap (λ (q : Phase). walkOf mode q ws room) (idle-phase p (not-true _ (b .0))) ∙ head-taken mode ws room (b .1)
     go false e = sym (past-zero (walkOf mode p ws room))
+
+-- ---- a head by its own six words
+-- the words behind them are not asked
+abbrev pub sixOf : List ℕ → List ℕ
+sixOf ws = getD ws 0 0 ∷ getD ws 1 0 ∷ getD ws 2 0 ∷ getD ws 3 0 ∷ getD ws 4 0 ∷ getD ws 5 0 ∷ []
+
+stands-alone : (room : ℕ) (ws : List ℕ) → 6 ≤ length ws → headStands room (sixOf ws) ≡ headStands room ws
+unfolding headStands
+stands-alone room [] h = absurd (omega arith)
+stands-alone room (a ∷ []) h = absurd (omega arith)
+stands-alone room (a ∷ b ∷ []) h = absurd (omega arith)
+stands-alone room (a ∷ b ∷ c ∷ []) h = absurd (omega arith)
+stands-alone room (a ∷ b ∷ c ∷ d ∷ []) h = absurd (omega arith)
+stands-alone room (a ∷ b ∷ c ∷ d ∷ e ∷ []) h = absurd (omega arith)
+stands-alone room (a ∷ b ∷ c ∷ d ∷ e ∷ f ∷ ws) h =
+    let ok = eqb a separator && (each isByte (b ∷ c ∷ d ∷ e ∷ f ∷ []) && leb (countAt (a ∷ b ∷ c ∷ d ∷ e ∷ f ∷ [])) room) in
+    ap (λ (x : Bool). x && ok) (sym (le-leb 6 (length (a ∷ b ∷ c ∷ d ∷ e ∷ f ∷ ws)) h))
+
+pub head-six : (room : ℕ) (p : Phase) (ws : List ℕ) → 6 ≤ length ws
+    → (headTaken room p (sixOf ws) ≡ headTaken room p ws) × (headPhase room p (sixOf ws) ≡ headPhase room p ws)
+unfolding headOf
+head-six room p ws h =
+    let e = ap (λ (b : Bool). not (isBusy p) && b) (stands-alone room ws h) in
+    (ap (λ (b : Bool). pick b 6 0) e, ap (λ (b : Bool). pick b (Data (Typed (getD ws 1 0 % 256)) (countAt ws) 0) p) e)

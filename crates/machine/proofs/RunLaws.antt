@@ -14,7 +14,7 @@ use borrow.Rule.Slice.PartMut.{putMid}
 use borrow.Author.Tests.{lt-leb, lt-ltb, not-true}
 use Rattle.lists.specs.Tests.{pick}
 use Rattle.lists.specs.Lists.{each}
-use Rattle.lists.proofs.Tests.{pick-true, pick-false, or-false, both-true, and-none}
+use Rattle.lists.proofs.Tests.{pick-true, pick-false, or-false, both-true, and-none, true-false}
 use Rattle.lists.proofs.Lists.{map-part}
 use Rattle.lists.proofs.Loops.{next-drop, mid-paste}
 use Rattle.words.specs.Modes.{valueOf}
@@ -26,8 +26,9 @@ use Rattle.machine.specs.declared.phase.Phase.{Phase}
 use Rattle.machine.specs.declared.phase.Phase.the-variants.{Idle, Kind, First, Second, Third, Fourth, Data}
 use Rattle.machine.specs.declared.step.Met.the-variants.{Nothing}
 use Rattle.machine.specs.declared.step.Step.{Step}
+use Rattle.machine.specs.Phases.{isBusy}
 use Rattle.machine.specs.Machine.{on, idleStep, valueStep, dataStep, stepOf}
-use Rattle.machine.specs.Walk.{Walk, past, stored, walkOf}
+use Rattle.machine.specs.Walk.{Walk, past, collectedOf, stored, walkOf}
 use Rattle.machine.specs.Runs.{stopsBy, runOf, limitOf, mostBy, takenBy, ranPhase, ranRoom}
 use Rattle.machine.proofs.WalkLaws.{past-zero, past-past, word-goes}
 
@@ -250,16 +251,30 @@ end-in-room room n = go (eqb n 0)
     go true = omega arith
     go false = omega arith
 
-pub data-fits : (mode : ℕ) (t : Mark) (n m room : ℕ) (ws : List ℕ) (k : ℕ) → k ≡ takenBy mode (Data t n m) room ws → (k ≡ 0 → ⊥) → m + k ≤ room
-data-fits mode t n m room ws k e some =
+-- so much a phase takes again, of as many words
+pub most-again : (mode : ℕ) (p : Phase) (room : ℕ) (ws : List ℕ) (k : ℕ) → k ≡ takenBy mode p room ws → mostBy p room k ≡ k
+most-again mode Idle room ws k e = refl
+most-again mode Kind room ws k e = sym (no-run mode k e)
+most-again mode (First t) room ws k e = sym (no-run mode k e)
+most-again mode (Second t a) room ws k e = sym (no-run mode k e)
+most-again mode (Third t a b) room ws k e = sym (no-run mode k e)
+most-again mode (Fourth t a b c) room ws k e = sym (no-run mode k e)
+most-again mode (Data t n m) room ws k e = let x = run-of-part mode (min (length ws) (limitOf room n - m)) ws in omega (arith, e, x .1)
+
+-- the number collected stays below any bound of the room
+pub most-small : (t : Mark) (n m room k bound : ℕ) → m < bound → room < bound → m + mostBy (Data t n m) room k < bound
+most-small t n m room k bound low high = omega (arith, end-in-room room n)
+
+pub run-fits : (mode : ℕ) (p : Phase) (room : ℕ) (ws : List ℕ) (k : ℕ) → k ≡ takenBy mode p room ws → isBusy p ≡ true → (k ≡ 0 → ⊥) → collectedOf p + k ≤ room
+run-fits mode Idle room ws k e busy some = absurd (true-false (sym busy))
+run-fits mode Kind room ws k e busy some = absurd (some (no-run mode k e))
+run-fits mode (First t) room ws k e busy some = absurd (some (no-run mode k e))
+run-fits mode (Second t a) room ws k e busy some = absurd (some (no-run mode k e))
+run-fits mode (Third t a b) room ws k e busy some = absurd (some (no-run mode k e))
+run-fits mode (Fourth t a b c) room ws k e busy some = absurd (some (no-run mode k e))
+run-fits mode (Data t n m) room ws k e busy some =
     let x = run-of-part mode (min (length ws) (limitOf room n - m)) ws in
     omega (arith, e, some, x .1, end-in-room room n)
-
--- and the number collected stays below any bound of the room
-pub data-small : (mode : ℕ) (t : Mark) (n m room : ℕ) (ws : List ℕ) (k bound : ℕ) → k ≡ takenBy mode (Data t n m) room ws → m < bound → room < bound → m + k < bound
-data-small mode t n m room ws k bound e low high =
-    let x = run-of-part mode (min (length ws) (limitOf room n - m)) ws in
-    omega (arith, e, x .1, end-in-room room n)
 
 -- ---- parts lent for a run
 pub front-long : (k : ℕ) (l : List ℕ) → k ≤ length l → k ≡ length (take k l)
@@ -271,10 +286,39 @@ put-mid mode m ws room ys e =
     mid-paste room (map (valueOf mode) ws) ys m (length ws) (e ∙ sym (take-all (length ws) (map (valueOf mode) ws) (omega (arith, length-map ws (valueOf mode)))))
 
 -- and of the first k of the words
-pub ran-front : (mode k m : ℕ) (ws room : List ℕ) → k ≤ length ws
+ran-front : (mode k m : ℕ) (ws room : List ℕ) → k ≤ length ws
     → paste room m (map (valueOf mode) (take k ws)) (length (take k ws)) ≡ paste room m (map (valueOf mode) ws) k
 ran-front mode k m ws room h =
     let long : length (take k ws) ≡ k = length-take-le k ws h in
     let same : take k (map (valueOf mode) (take k ws)) ≡ take k (map (valueOf mode) ws) =
     take-all k (map (valueOf mode) (take k ws)) (omega (arith, length-map (take k ws) (valueOf mode), long)) ∙ map-part (valueOf mode) 0 k ws in
     ap (paste room m (map (valueOf mode) (take k ws))) long ∙ ap (λ (l : List ℕ). take m room ++ l ++ drop (m + k) room) same
+
+-- ---- the room behind a run
+-- idle keeps nothing
+pub idle-ran : (mode : ℕ) (p : Phase) (ws room : List ℕ) (k : ℕ) → isBusy p ≡ false → (p ≡ ranPhase p k) × (room ≡ ranRoom mode p ws k room)
+idle-ran mode Idle ws room k e = (refl, refl)
+idle-ran mode Kind ws room k e = (refl, refl)
+idle-ran mode (First t) ws room k e = (refl, refl)
+idle-ran mode (Second t a) ws room k e = (refl, refl)
+idle-ran mode (Third t a b) ws room k e = (refl, refl)
+idle-ran mode (Fourth t a b c) ws room k e = (refl, refl)
+idle-ran mode (Data t n m) ws room k e = absurd (true-false e)
+
+-- every other phase but data has taken no word
+none-kept : (mode m : ℕ) (ws room : List ℕ) (k : ℕ) → k ≡ runOf mode [] → paste room m (map (valueOf mode) ws) k ≡ room
+none-kept mode m ws room k e = ap (paste room m (map (valueOf mode) ws)) (no-run mode k e) ∙ sym (paste-zero room m (map (valueOf mode) ws))
+
+pasted : (mode : ℕ) (p : Phase) (ws room : List ℕ) (k : ℕ) → k ≡ takenBy mode p (length room) ws → isBusy p ≡ true → paste room (collectedOf p) (map (valueOf mode) ws) k ≡ ranRoom mode p ws k room
+pasted mode Idle ws room k e busy = absurd (true-false (sym busy))
+pasted mode Kind ws room k e busy = none-kept mode 0 ws room k e
+pasted mode (First t) ws room k e busy = none-kept mode 0 ws room k e
+pasted mode (Second t a) ws room k e busy = none-kept mode 0 ws room k e
+pasted mode (Third t a b) ws room k e busy = none-kept mode 0 ws room k e
+pasted mode (Fourth t a b c) ws room k e busy = none-kept mode 0 ws room k e
+pasted mode (Data t n m) ws room k e busy = refl
+
+pub ran-kept : (mode : ℕ) (p : Phase) (ws room : List ℕ) (k : ℕ) → k ≡ takenBy mode p (length room) ws → isBusy p ≡ true
+    → paste room (collectedOf p) (map (valueOf mode) (take k ws)) (length (take k ws)) ≡ ranRoom mode p ws k room
+ran-kept mode p ws room k e busy =
+    ran-front mode k (collectedOf p) ws room (omega (arith, e, taken-within mode p (length room) ws)) ∙ pasted mode p ws room k e busy

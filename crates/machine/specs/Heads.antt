@@ -1,4 +1,4 @@
--- A whole head of a block: 309h, the type word and the four count words. Only the promises of private functions cite this.
+-- A whole head of a block: 309h, the type word and the four count words. No promise of a walk cites this; those of what the walks share do.
 -- Assumes nothing.
 use Prim.Native.Nat.{ℕ, _+_, _*_, _%_}
 use mathlib.Core.Bool.{Bool, not, _&&_}

@@ -1,4 +1,4 @@
--- Runs of words that a phase takes with no report. Only the promises of private functions cite this.
+-- Runs of words that a phase takes with no report. No promise of a walk cites this; those of what the walks share do.
 -- Assumes nothing.
 use Prim.Native.Nat.{ℕ, suc, _+_, _-_, min}
 use mathlib.Core.Bool.{Bool, _&&_, _||_}

@@ -56,7 +56,7 @@ fn stands(words: &[u16], room: usize) -> bool
 }
 
 // The head in front, if the phase is idle and a whole one stands there; else no word.
-pub(crate) fn take_head(phase: Phase, words: &[u16], room: usize) -> Ran
+pub fn take_head(phase: Phase, words: &[u16], room: usize) -> Ran
     ensures { λ r. ⌜ (r .taken ≡ headTaken room phase (now (words .entry))) × (r .phase ≡ headPhase room phase (now (words .entry))) ⌝ }
 {
     if phase::is_busy(phase) {

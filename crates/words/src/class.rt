@@ -98,10 +98,14 @@ pub fn class_in(t: &[u8; 1024], w: u16) -> Class
     class_of_bit(bit_in(t, w))
 }
 
-// The bit of a word. It is called from two places, so that the compiler keeps it apart, and the table is built only for a word that asks for it.
+// The bit of a word. It is called from two places, so that the compiler keeps it apart, and the table is built only for a word that asks for it. The entry of 30Ah, with
+// which every block ends, is asked for by its own number: that entry the compiler looks up, and no table is built for it.
 pub fn bit_of(w: u16) -> u8
     ensures { λ r. ⌜ r ≡ bitIn classTable w ⌝ }
 {
+    if w == END_CODE {
+        return bit_in(&classes(), END_CODE);
+    }
     bit_in(&classes(), w)
 }
 

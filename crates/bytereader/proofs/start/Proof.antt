@@ -10,7 +10,7 @@ use Rattle.line.specs.Check.{checkedOf}
 use Rattle.octets.specs.Bytes.{wordsOf}
 use Rattle.octets.proofs.BytesLaws.{length-words}
 use Rattle.reader.specs.Reading.{starts}
-use Rattle.bytereader.proofs.PairLaws.{front-words}
+use Rattle.bytereader.proofs.CallLaws.{front-words}
 use borrow.Author.Needs.{needs}
 use Rattle.bytereader.proofs.start.Statement.{statement}
 use Rattle.bytereader.proofs.start.Tie as tie

@@ -1,25 +1,22 @@
 -- `bytereader::goes::walk_from` meets its contract: the bytes that are lent spell the words that the reader lends. Assumes nothing.
 use Rattle.lists.proofs.Needs.{need}
-use mathlib.Core.Path.{_≡_, refl, sym, ap, ap₂, _∙_}
+use mathlib.Core.Path.{_≡_, sym, ap, ap₂, _∙_}
 use mathlib.Core.Bool.{false}
 use mathlib.Core.List.{List}
-use Prim.Native.Nat.{ℕ, _+_, _-_, _*_, _/_, _≤_}
+use Prim.Native.Nat.{ℕ, _+_, _-_, _*_, _≤_}
 use native.Mathlib.Omega.{arith}
 use lib.ListN.{length, take, drop}
 use Rattle.lists.proofs.Tests.{pick-true, pick-false}
 use Rattle.octets.specs.Bytes.{wordsOf}
 use Rattle.octets.proofs.BytesLaws.{length-words, words-part}
-use Rattle.line.specs.Systems.{systemOf}
-use Rattle.line.specs.Fixed.{isVariable, sizeOf}
+use Rattle.line.specs.Fixed.{isVariable}
 use Rattle.machine.specs.Walk.{walkOf}
-use Rattle.machine.specs.Places.{placesIn, walkPlaces}
-use Rattle.machine.proofs.PlaceLaws.{fixed-walk}
+use Rattle.machine.specs.Places.{walkFixed}
 use Rattle.reader.specs.State.{capacity}
 use Rattle.reader.specs.Reading.{wordsFrom}
 use Rattle.reader.specs.Within.{walkTo}
 use Rattle.reader.proofs.Ready.{ReadyIn, ready}
-use Rattle.reader.proofs.ReadLaws.{payload-in, Span, span, grid, block-fits}
-use Rattle.reader.proofs.AtCapacity.{enough}
+use Rattle.reader.proofs.ReadLaws.{payload-in, Span, span}
 use borrow.Author.Needs.{needs}
 use Rattle.bytereader.proofs.goes.walk_from.Statement.{statement}
 use Rattle.bytereader.proofs.goes.walk_from.Tie as tie
@@ -58,18 +55,6 @@ fixed-line : (b : tie.Else1) →
     isVariable (g .st .settings .block) ≡ false
 fixed-line b = sym (b .before .is-variable .ensures) ∙ b .if1 .left
 
--- a place has a word, and its values have room
-fits : (b : tie.Else1) →
-    let g = b .before .before .before .before .before .before .before .args in
-    (1 ≤ sizeOf (g .st .settings .block)) × (sizeOf (g .st .settings .block) ≤ length (wordsOf (g .room .now)))
-fits b =
-    let s = b .before .before .before .before .before .before .before in
-    let g = s .args in
-    let row = systemOf (g .st .system) in (
-      grid (g .st) (g .q) (wordsOf (g .line .now)) (wordsOf (g .room .now)) (s .pre .0) (is-ready s) row refl (fixed-line b) _ refl .one,
-      block-fits (g .st) (g .q) (wordsOf (g .line .now)) (wordsOf (g .room .now)) (s .pre .0) (is-ready s) row refl enough (fixed-line b),
-    )
-
 sub-a : tie.Need-sub-a
 sub-a c = let s = c .before .before .before .before .before in payload-in _ _ _ _ (s .pre .0) (is-ready s) _ (c .before .before .system-of .ensures)
 
@@ -106,24 +91,18 @@ returns c =
     let v = c .before .before .before .before .before .before in
     let x = v .before .before .before in
     let g = x .before .before .before .args in
-    c .before .before .walk .ensures
+    c .before .before .walk .ensures .0
     ∙ ap (λ (ws : List ℕ). walkOf (g .st .mode) (g .st .phase) ws (wordsOf (g .room .now))) (lent x)
     ∙ sym (pick-true _ _ (sym (v .is-variable .ensures) ∙ c .before .before .before .before .before .if1 .taken))
 
-sub-walk-places : tie.Need-sub-walk-places
-sub-walk-places c = let z = spanned (c .before .before .before .before) in omega (arith, z .inside)
+sub-walk-fixed : tie.Need-sub-walk-fixed
+sub-walk-fixed c = let z = spanned (c .before .before .before .before) in omega (arith, z .inside)
 
-part-walk-places-start : tie.Need-part-walk-places-start
-part-walk-places-start c = let z = spanned (c .before .before .before .before) in omega (arith, z .inside)
+part-walk-fixed-start : tie.Need-part-walk-fixed-start
+part-walk-fixed-start c = let z = spanned (c .before .before .before .before) in omega (arith, z .inside)
 
-part-walk-places-end : tie.Need-part-walk-places-end
-part-walk-places-end c = ends (c .before .before .before .before)
-
-walk-places-requires : tie.Need-walk-places-requires
-walk-places-requires c κs =
-    let b = c .before .before in
-    let size = b .before .before .before .before .before .before .before .pre .4 in
-    (omega (arith, fits b .0, size), omega (arith, fits b .1, size))
+part-walk-fixed-end : tie.Need-part-walk-fixed-end
+part-walk-fixed-end c = ends (c .before .before .before .before)
 
 returns-2 : tie.Need-returns-2
 unfolding walkTo
@@ -132,16 +111,13 @@ returns-2 c =
     let x = b .before .before .before .before in
     let s = x .before .before .before in
     let g = s .args in
-    let walks : ℕ → List ℕ → _ = λ size ws. walkPlaces (g .st .mode) (g .st .phase) (placesIn size (length ws / size) ws) (wordsOf (g .room .now)) in
-    c .before .before .walk-places .ensures
-    ∙ ap₂ walks (s .pre .4) (lent x)
-    ∙ sym (fixed-walk (g .st .mode) (g .st .phase) (sizeOf (g .st .settings .block)) _ (wordsOf (g .room .now)) (fits b .0) (omega (arith, fits b .1)))
-    ∙ sym (pick-false _ _ (fixed-line b))
+    let walks : ℕ → List ℕ → _ = λ size ws. walkFixed (g .st .mode) (g .st .phase) size ws (wordsOf (g .room .now)) in
+    c .before .before .walk-fixed .ensures .0 ∙ ap₂ walks (s .pre .4) (lent x) ∙ sym (pick-false _ _ (fixed-line b))
 
 pub walk-from-spec : {M : Type 1} → statement M
 walk-from-spec =
     tie.close (tie.spec
     (need tie.Need-system-of-requires (λ c κs. search needs)) sub-a add-e mul-e add-i mul-i (need tie.Need-is-variable-requires (λ c κs. search needs))
     sub-walk part-walk-start part-walk-end (need tie.Need-walk-requires (λ c κs. search needs)) (need tie.Need-same-length (λ c. search needs))
-    returns sub-walk-places part-walk-places-start part-walk-places-end walk-places-requires
+    returns sub-walk-fixed part-walk-fixed-start part-walk-fixed-end (need tie.Need-walk-fixed-requires (λ c κs. search needs))
     (need tie.Need-same-length-2 (λ c. search needs)) returns-2)

@@ -1,0 +1,82 @@
+-- `bytewalks::runs::run_by_chunks` meets its contract: what it passed over is a part of the run. Assumes nothing.
+use Rattle.lists.proofs.Needs.{need}
+use mathlib.Core.Path.{_≡_, sym, ap, _∙_}
+use mathlib.Core.Bool.{not}
+use Prim.Native.Nat.{ℕ, _+_, _-_, _*_, _≤_}
+use native.Mathlib.Nat.{zero-add}
+use native.Mathlib.Omega.{arith}
+use lib.ListN.{length, drop}
+use borrow.Author.Tests.{not-false}
+use Rattle.lists.specs.Lists.{each}
+use Rattle.octets.specs.Bytes.{wordsOf}
+use Rattle.octets.proofs.BytesLaws.{length-words, words-part}
+use Rattle.machine.specs.Runs.{stopsBy, runOf}
+use Rattle.machine.proofs.RunLaws.{run-chunk}
+use borrow.Author.Needs.{needs}
+use Rattle.bytewalks.proofs.runs.run_by_chunks.Statement.{statement}
+use Rattle.bytewalks.proofs.runs.run_by_chunks.Tie as tie
+
+abbrev Inv-loop : tie.InvT-loop
+Inv-loop n mode words long i₀ i = (i ≤ length (wordsOf words)) × (i + runOf mode (drop i (wordsOf words)) ≡ runOf mode (wordsOf words))
+
+abbrev μ-loop : tie.MeasureT-loop
+μ-loop n mode words long i₀ i = long - i
+
+fits : (t : tie.In-loop Inv-loop μ-loop) →
+    let a = t .before .before .before .args in
+    t .before .loop .i + a .n ≤ length (wordsOf (a .words .now))
+fits t = omega (arith, t .loop-test .taken, t .before .loop .inv .0, length-words (t .before .before .before .args .words .now))
+
+bytes-fit : (t : tie.In-loop Inv-loop μ-loop) →
+    let a = t .before .before .before .args in
+    2 * (t .before .loop .i + a .n) ≤ length (a .words .now)
+bytes-fit t = omega (arith, fits t, length-words (t .before .before .before .args .words .now))
+
+loop-holds : tie.Need-loop-holds Inv-loop μ-loop
+loop-holds c = (omega arith, zero-add _)
+
+sub-loop : tie.Need-sub-loop Inv-loop μ-loop
+sub-loop c = omega (arith, c .loop .inv .0, length-words (c .before .before .args .words .now))
+
+add-e : tie.Need-add-e Inv-loop μ-loop
+add-e c = let h = bytes-fit c in search needs
+
+mul-b : tie.Need-mul-b Inv-loop μ-loop
+mul-b c = let h = bytes-fit c in search needs
+
+mul-f : tie.Need-mul-f Inv-loop μ-loop
+mul-f c = let h = bytes-fit c in search needs
+
+part-runs-on-end : tie.Need-part-runs-on-end Inv-loop μ-loop
+part-runs-on-end c = bytes-fit c
+
+returns : tie.Need-returns Inv-loop μ-loop
+returns c = c .before .before .before .before .loop .inv
+
+loop-less : tie.Need-loop-less Inv-loop μ-loop
+loop-less c =
+    let t = c .before .before .before in
+    omega (arith, t .loop-test .taken, t .before .before .before .pre)
+
+loop-again : tie.Need-loop-again Inv-loop μ-loop
+loop-again c =
+    let x = c .before in
+    let t = x .before .before in
+    let a = t .before .before .before .args in
+    let l = t .before .loop in
+    let part = words-part (l .i) (l .i + a .n) (a .words .now) in (
+      fits t,
+      run-chunk (a .mode) (wordsOf (a .words .now)) (l .i) (a .n) (fits t)
+          (ap (each (λ (w : ℕ). not (stopsBy (a .mode) w))) (sym part) ∙ sym (x .runs-on .ensures) ∙ not-false _ (c .if1 .left))
+          ∙ l .inv .1,
+    )
+
+returns-2 : tie.Need-returns-2 Inv-loop μ-loop
+returns-2 c = c .before .loop .inv
+
+pub run-by-chunks-spec : {M : Type 1} → statement M
+run-by-chunks-spec =
+    tie.close (tie.spec
+    Inv-loop μ-loop loop-holds sub-loop add-e mul-b mul-f (need (tie.Need-sub-runs-on Inv-loop μ-loop) (λ c. search needs))
+    (need (tie.Need-part-runs-on-start Inv-loop μ-loop) (λ c. search needs)) part-runs-on-end
+    (need (tie.Need-runs-on-requires Inv-loop μ-loop) (λ c κs. search needs)) returns loop-less loop-again returns-2)
