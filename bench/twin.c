@@ -1,10 +1,13 @@
-// The jobs of the programs `pace` and `slices`, written by hand in C: lines of system 0 written, checked and read in memory.
+// The jobs of the programs `pace`, `pacereads` and `slices`, written by hand in C for speed: lines of system 0 written, read and checked in memory.
 //   twin WHAT JOB MODE ROUNDS     WHAT: write, read, slice (read in slices of 64 words), check, lines (the lines themselves are printed);
-//                                 JOB: a to i; MODE: 8, 9
+//                                 JOB: a to n; MODE: 8, 9
 // Jobs: a variable blocks of 10,000 values, flag 01h; b of 100 values; c fixed blocks 21h, flag 00h; d filler lines, flag 01h;
 // with WHAT write alone: e, f a filler line, or a line full of a's blocks, closed again and again; g c's blocks, those of a line in one list;
-// h variable blocks of 4 values, flag 01h; i the same in one list.
-// A round is eight lines. What is printed is a digest, which `pace` or `slices` has to print too.
+// h variable blocks of 4 values, flag 01h; i the same in one list; j, k, l variable blocks of 1, 10 and 1,000 values, flag 01h;
+// not with WHAT write: m, n d's lines, spoiled so that they are refused with 3 and with 16.
+// A round is eight lines. What is printed is the CRC register after all words, and with read, slice and check a digest of what was told.
+// Eight words are a vector (SSE2's and Arm's; the compiler's own notation for them). Areas and runs go by chunks, and what is rare is looked for only in a chunk
+// that is not plain. Where many words do not fill the last vector or chunk, that stands over words that were taken already. Words lie in memory low byte first.
 #include <stdint.h>
 #include <stdio.h>
 #include <stdlib.h>
@@ -13,77 +16,187 @@
 enum { LENGTH = 1716, PAYLOAD = 1440, START = LENGTH - PAYLOAD, LINES = 525, BATCH = 8, ROOM = 16384, MOST = 10000 };
 enum { SYSTEM = 0 }; // the one that the twin knows; LENGTH, PAYLOAD and LINES are its own
 enum { SEPARATOR = 0x309, END_CODE = 0x30A, NULL_WORD = 0x100, FILLER = 0x200, VARIABLE = 0xC1 };
+enum { CHUNK = 32 };
 
 typedef struct {
     uint8_t code, aai, to[16], from[16], block, flag, reserved[5];
 } Settings;
 
+static size_t min(size_t a, size_t b) { return a < b ? a : b; }
+
 // ---- words
-static unsigned parity(unsigned v) {
-    v ^= v >> 4;
-    v ^= v >> 2;
-    return (v ^ v >> 1) & 1;
-}
+// The byte form of every value: for single words a load, where a loop over many has shifts.
+#define ONE(v, p) ((p) ? 0x100 : 0x200) + (v)
+#define FOUR(v, p) ONE(v, p), ONE(v + 1, !(p)), ONE(v + 2, !(p)), ONE(v + 3, p)
+#define SIXTEEN(v, p) FOUR(v, p), FOUR(v + 4, !(p)), FOUR(v + 8, !(p)), FOUR(v + 12, p)
+#define SIXTY_FOUR(v, p) SIXTEEN(v, p), SIXTEEN(v + 16, !(p)), SIXTEEN(v + 32, !(p)), SIXTEEN(v + 48, p)
+static const uint16_t BYTE_FORM[256] = {SIXTY_FOUR(0, 0), SIXTY_FOUR(64, 1), SIXTY_FOUR(128, 1), SIXTY_FOUR(192, 0)};
+
+static uint16_t byte_word(unsigned v) { return BYTE_FORM[v & 0xFF]; }
 
 static uint16_t data_word(unsigned v) { return (uint16_t)((v & 0x1FF) | (~v & 0x100) << 1); }
-
-static uint16_t byte_word(unsigned v) { return (uint16_t)(0x200 - (parity(v & 0xFF) << 8) + (v & 0xFF)); }
-
-static int is_data(unsigned w) { return w - 0x100 < 0x200; }
 
 static int is_byte(unsigned w) { return byte_word(w) == w; }
 
 static int is_code(unsigned w) { return w - SEPARATOR < 2; }
 
-// ---- the CRC: what is fed back comes in again after 13 bits at the earliest, so ten bits are one step, and sixty bits a few
-static uint32_t crc_word(uint32_t c, unsigned w) {
-    uint32_t x = (c ^ w) & 0x3FF;
-    return c >> 10 ^ x << 8 ^ x << 4 ^ x << 3;
+// ---- eight words, or sixteen bytes, at a time
+typedef uint16_t Words __attribute__((vector_size(16)));
+typedef uint8_t Bytes __attribute__((vector_size(16)));
+typedef uint64_t Halves __attribute__((vector_size(16)));
+
+static inline Words load(const uint16_t *w) {
+    Words x;
+    memcpy(&x, w, sizeof x);
+    return x;
 }
 
-static uint64_t fed(uint64_t x, int a, int b, int c) { return x ^ x << a ^ x << b ^ x << c; }
+static inline void store(uint16_t *w, Words x) { memcpy(w, &x, sizeof x); }
+
+static inline int is_any(Words x) {
+    Halves h = (Halves)x;
+    return (h[0] | h[1]) != 0;
+}
+
+// The low bytes of sixteen words, and the high ones; and words of both.
+static inline Bytes lows(Words a, Words b) {
+    return __builtin_shuffle((Bytes)a, (Bytes)b, (Bytes){0, 2, 4, 6, 8, 10, 12, 14, 16, 18, 20, 22, 24, 26, 28, 30});
+}
+
+static inline Bytes highs(Words a, Words b) {
+    return __builtin_shuffle((Bytes)a, (Bytes)b, (Bytes){1, 3, 5, 7, 9, 11, 13, 15, 17, 19, 21, 23, 25, 27, 29, 31});
+}
+
+static inline Words first_of(Bytes low, Bytes high) {
+    return (Words)__builtin_shuffle(low, high, (Bytes){0, 16, 1, 17, 2, 18, 3, 19, 4, 20, 5, 21, 6, 22, 7, 23});
+}
+
+static inline Words second_of(Bytes low, Bytes high) {
+    return (Words)__builtin_shuffle(low, high, (Bytes){8, 24, 9, 25, 10, 26, 11, 27, 12, 28, 13, 29, 14, 30, 15, 31});
+}
+
+// What stands above a byte in byte form: 2, less the exclusive or of its bits.
+static inline Bytes above(Bytes b) {
+    b ^= b << 4;
+    b ^= b << 2;
+    b ^= b << 1;
+    return 2 - (b >> 7);
+}
+
+// 0 of sixteen words in byte form.
+static inline Words not_bytes(Words a, Words b) { return (Words)(above(lows(a, b)) ^ highs(a, b)); }
+
+// Sixteen words or more are in byte form.
+static int all_byte(const uint16_t *w, size_t n) {
+    Words bad = not_bytes(load(w + n - 16), load(w + n - 8));
+    for (size_t i = 0; i + 16 <= n; i += 16)
+        bad |= not_bytes(load(w + i), load(w + i + 8));
+    return !is_any(bad);
+}
+
+static int is_data(unsigned w) { return w - 0x100 < 0x200; }
+
+// ---- the CRC: what is fed back comes in again after 13 bits at the earliest, so sixty bits are a few shifts
+static uint64_t fed(uint64_t x, int a, int b, int c) { return (x ^ x << a) ^ (x << b ^ x << c); }
 
 static uint64_t after_sixty(uint64_t x) {
     x = fed(fed(fed(x, 13, 14, 18), 26, 28, 36), 52, 56, 60) & 0xFFFFFFFFFFFFFFF;
     return x >> 42 ^ x >> 46 ^ x >> 47;
 }
 
-// The register c taken on over the words, six at a time.
+// The ten bits of four words side by side.
+static uint64_t beside(uint64_t x) {
+    x = (x & 0x3FF000003FF) | (x >> 6 & 0xFFC00000FFC00);
+    return (x & 0xFFFFF) | (x >> 12 & 0xFFFFF00000);
+}
+
+static uint64_t four(const uint16_t *w) {
+    uint64_t x;
+    memcpy(&x, w, sizeof x);
+    return x;
+}
+
+static uint64_t forty(const uint16_t *w) { return beside(four(w)); }
+
+static uint64_t twenty(const uint16_t *w) { return (w[0] & 0x3FFu) | (w[1] & 0x3FFu) << 10; }
+
+static uint64_t sixty(const uint16_t *w) { return forty(w) | twenty(w + 4) << 40; }
+
+static uint64_t crc_word(uint64_t c, unsigned w) {
+    uint64_t x = (c ^ w) & 0x3FF;
+    return c >> 10 ^ x << 8 ^ x << 4 ^ x << 3;
+}
+
+// Less than six words: under them stand so many bits that are 0 that there are sixty.
+static uint64_t crc_rest(uint64_t c, const uint16_t *w, size_t n) {
+    size_t i = 0, up = 60 - 10 * n;
+    if (n < 2)
+        return n == 0 ? c : crc_word(c, w[0]);
+    if (n & 4)
+        c ^= forty(w), i = 4;
+    if (n & 2)
+        c ^= twenty(w + i) << 10 * i, i += 2;
+    if (n & 1)
+        c ^= (uint64_t)(w[i] & 0x3FF) << 10 * i;
+    return after_sixty(c << up);
+}
+
+// Eighteen words at a time, behind those that are too many: what they do by themselves waits for nothing, and 180 bits that are 0 do what 37, 42 and 48 do
+// together, in one step.
 static uint32_t crc_few(uint64_t c, const uint16_t *w, size_t n) {
-    size_t i = 0;
-    for (; i + 6 <= n; i += 6) {
-        uint64_t x = c;
-        for (int k = 0; k < 6; k++)
-            x ^= (uint64_t)(w[i + k] & 0x3FF) << 10 * k;
-        c = after_sixty(x);
+    size_t i = n % 6;
+    c = crc_rest(c, w, i);
+    for (; i < n % 18; i += 6)
+        c = after_sixty(c ^ sixty(w + i));
+    for (; i < n; i += 18) {
+        uint64_t own = after_sixty(after_sixty(after_sixty(sixty(w + i)) ^ sixty(w + i + 6)) ^ sixty(w + i + 12));
+        c = after_sixty(c << 23 ^ c << 18 ^ c << 12) ^ own;
     }
-    for (; i < n; i++)
-        c = crc_word((uint32_t)c, w[i]);
     return (uint32_t)c;
 }
 
-// n words in z, y: a word counts as much as it would z, z - a and z - b places further on, all three. f has z words before them, and room for z + a more.
-static inline void fold(size_t z, size_t a, size_t b, const uint16_t *restrict w, size_t n, uint16_t *restrict f, uint16_t *restrict y) {
-    size_t m = n - z;
-    for (size_t i = 0; i < m; i++)
-        f[i + z] = w[i] ^ f[i + a] ^ f[i + b] ^ f[i];
-    memset(f + m + z, 0, a * sizeof *f);
-    for (size_t i = 0; i < z; i++)
-        y[i] = w[m + i] ^ f[m + i + a] ^ f[m + i + b] ^ f[m + i];
-}
-
+// x^3040 + x^1520 + x^1280 + 1 is a multiple of G, and so with half of each: so a word counts as much as it would 152, 176 and 304 places further on, all three.
 enum { FOLD_FROM = 456, FOLD_TO = 1920 };
 
-// From FOLD_FROM to FOLD_TO words: in 304, then in 152, because x^3040 + x^1520 + x^1280 + 1 is a multiple of G, and so with half of each.
+// Each word of w xored with those that stand 304, 176 and 152 places before it, but none of the last 304 of f: these are left.
+static void fold(const uint16_t *restrict w, size_t n, uint32_t c, uint16_t *restrict f) {
+    size_t i = 0, left = n - 304;
+    memcpy(f, w, 152 * sizeof *f);
+    f[0] ^= c & 0x3FF;
+    f[1] ^= (uint16_t)(c >> 10);
+    for (i = 152; i < 176; i++)
+        f[i] = w[i] ^ f[i - 152];
+    for (; i < 304; i++)
+        f[i] = w[i] ^ f[i - 152] ^ f[i - 176];
+    for (; i < left + 152; i++)
+        f[i] = w[i] ^ f[i - 152] ^ f[i - 176] ^ f[i - 304];
+    for (; i < left + 176; i++)
+        f[i] = w[i] ^ f[i - 176] ^ f[i - 304];
+    for (; i < n; i++)
+        f[i] = w[i] ^ f[i - 304];
+}
+
+// 76 k words in half as many, y, by distances of 19 k, 22 k and 38 k. What the first 19 k get is nothing, so that no word waits for another.
+static inline void fold_again(uint16_t *restrict f, size_t k, uint16_t *restrict y) {
+    size_t a = 19 * k, b = 22 * k, z = 38 * k;
+    for (size_t i = a; i < b; i++)
+        f[i] ^= f[i - a];
+    for (size_t i = b; i < z; i++)
+        f[i] ^= f[i - a] ^ f[i - b];
+    for (size_t i = 0; i < a; i++)
+        y[i] = f[i + z] ^ f[i] ^ f[i + a] ^ f[i + z - b];
+    for (size_t i = a; i < b; i++)
+        y[i] = f[i + z] ^ f[i] ^ f[i + z - b];
+    for (size_t i = b; i < z; i++)
+        y[i] = f[i + z] ^ f[i];
+}
+
 static uint32_t crc_folded(uint32_t c, const uint16_t *w, size_t n) {
-    uint16_t f[FOLD_TO + 152], y[304], g[304 + 76], z[152];
-    memset(f, 0, 304 * sizeof *f);
-    f[0] = c & 0x3FF;
-    f[1] = (uint16_t)(c >> 10);
-    fold(304, 152, 128, w, n, f, y);
-    memset(g, 0, 152 * sizeof *g);
-    fold(152, 76, 64, y, 304, g, z);
-    return crc_few(0, z, 152);
+    uint16_t f[FOLD_TO], y[152], z[76];
+    fold(w, n, c, f);
+    fold_again(f + n - 304, 4, y);
+    fold_again(y, 2, z);
+    return crc_few(0, z, 76);
 }
 
 // Any number of words.
@@ -95,13 +208,12 @@ static uint32_t crc_on(uint32_t c, const uint16_t *w, size_t n) {
 
 // And over n words of filler: 156 words that are 0 do what 25, 48 and 57 bits that are 0 do together.
 static uint32_t crc_filler(uint64_t c, size_t n) {
+    static const uint16_t few[] = {FILLER, FILLER, FILLER, FILLER, FILLER, FILLER};
     for (; n >= 156; n -= 156)
         c = after_sixty(c << 35 ^ c << 12 ^ c << 3) ^ 0x314C3;
     for (; n >= 6; n -= 6)
         c = after_sixty(c ^ 0x802008020080200);
-    for (; n > 0; n--)
-        c = crc_word((uint32_t)c, FILLER);
-    return (uint32_t)c;
+    return (uint32_t)crc_rest(c, few, n);
 }
 
 enum { CRC_START = 0x3FFFF };
@@ -113,24 +225,30 @@ static void register_words(uint32_t c, uint16_t *out) {
     out[1] = data_word(c >> 9);
 }
 
-static void crc_words(const uint16_t *w, size_t n, uint16_t *out) { register_words(crc_of(w, n), out); }
+// What stands there is the register's two words.
+static int is_register(uint32_t c, const uint16_t *w) { return w[0] == data_word(c) && w[1] == data_word(c >> 9); }
 
 // Unknown system or mode, or line not L long.
 static int unfit(unsigned system, int mode, size_t length) { return system != SYSTEM || (mode != 8 && mode != 9) || length != LENGTH; }
 
 // ---- settings
-// The fixed blocks by B5-B0 of the block type: size with the type word, and places at 270.
+// The fixed blocks by B5-B0 of the block type: size with the type word, and places at 270; and for a product in place of a division by the size.
+#define ROW(size, places) {size, places, (1 << 22) / (size) + 1}
 static const struct {
     uint16_t size, places;
+    uint32_t by;
 } FIXED[64] = {
-    [0x01] = {1438, 1}, [0x02] = {719, 2},  [0x03] = {479, 3},  [0x04] = {359, 4},  [0x09] = {1918, 0}, [0x0A] = {959, 1},  [0x0B] = {639, 2},
-    [0x11] = {766, 1},  [0x12] = {383, 3},  [0x13] = {255, 5},  [0x14] = {191, 7},  [0x21] = {5, 287},  [0x22] = {9, 159},  [0x23] = {13, 110},
-    [0x24] = {17, 84},  [0x25] = {33, 43},  [0x26] = {49, 29},  [0x27] = {65, 22},  [0x28] = {97, 14},  [0x29] = {129, 11}, [0x2A] = {193, 7},
-    [0x2B] = {257, 5},  [0x2C] = {385, 3},  [0x2D] = {513, 2},  [0x2E] = {609, 2},  [0x31] = {62, 23},  [0x32] = {153, 9},  [0x33] = {171, 8},
-    [0x34] = {177, 8},  [0x35] = {199, 7},  [0x36] = {256, 5},  [0x37] = {144, 10}, [0x38] = {160, 9},
+    [0x01] = ROW(1438, 1), [0x02] = ROW(719, 2),  [0x03] = ROW(479, 3),  [0x04] = ROW(359, 4),  [0x09] = ROW(1918, 0), [0x0A] = ROW(959, 1),
+    [0x0B] = ROW(639, 2),  [0x11] = ROW(766, 1),  [0x12] = ROW(383, 3),  [0x13] = ROW(255, 5),  [0x14] = ROW(191, 7),  [0x21] = ROW(5, 287),
+    [0x22] = ROW(9, 159),  [0x23] = ROW(13, 110), [0x24] = ROW(17, 84),  [0x25] = ROW(33, 43),  [0x26] = ROW(49, 29),  [0x27] = ROW(65, 22),
+    [0x28] = ROW(97, 14),  [0x29] = ROW(129, 11), [0x2A] = ROW(193, 7),  [0x2B] = ROW(257, 5),  [0x2C] = ROW(385, 3),  [0x2D] = ROW(513, 2),
+    [0x2E] = ROW(609, 2),  [0x31] = ROW(62, 23),  [0x32] = ROW(153, 9),  [0x33] = ROW(171, 8),  [0x34] = ROW(177, 8),  [0x35] = ROW(199, 7),
+    [0x36] = ROW(256, 5),  [0x37] = ROW(144, 10), [0x38] = ROW(160, 9),
 };
 
 static size_t area_of(const Settings *s) { return s->flag == 1 ? PAYLOAD - 2 : PAYLOAD; }
+
+static size_t size_of(const Settings *s) { return FIXED[s->block & 63].size; }
 
 // Where blocks end in the payload.
 static size_t end_of(const Settings *s) {
@@ -138,6 +256,9 @@ static size_t end_of(const Settings *s) {
         return area_of(s);
     return (size_t)FIXED[s->block & 63].size * FIXED[s->block & 63].places;
 }
+
+// A place up to 1,920, as a product.
+static unsigned divided(size_t place, const Settings *s) { return (unsigned)place * FIXED[s->block & 63].by >> 22; }
 
 // The lowest of 10 to 13 that holds, or 0. The reserved bytes are not asked.
 static int settings_fault(const Settings *s) {
@@ -160,41 +281,48 @@ static int possible(unsigned last, const Settings *s, unsigned place, int busy) 
         return 0;
     if (place == NONE)
         return 1;
-    return place <= end_of(s) && (s->block == VARIABLE || place % FIXED[s->block & 63].size == 0);
+    return place <= end_of(s) && (s->block == VARIABLE || divided(place, s) * size_of(s) == place);
 }
 
 // ---- writing
-static void timing(int f, int v, int h, uint16_t *out) {
+static const uint16_t EAV[4] = {0x274, 0x2D8, 0x368, 0x3C4}, SAV[4] = {0x200, 0x2AC, 0x31C, 0x3B0}; // the fourth word, by F and V
+
+static void timing(uint16_t fourth, uint16_t *out) {
     out[0] = 0x3FF;
     out[1] = out[2] = 0;
-    out[3] = (uint16_t)(1 << 9 | f << 8 | v << 7 | h << 6 | (v ^ h) << 5 | (f ^ h) << 4 | (f ^ v) << 3 | (f ^ v ^ h) << 2);
+    out[3] = fourth;
 }
 
-static uint16_t checksum(const uint16_t *w, size_t n) {
+static unsigned checksum(const uint16_t *w) {
     unsigned sum = 0;
-    for (size_t i = 0; i < n; i++)
+    for (size_t i = 0; i < 49; i++)
         sum += w[i] & 0x1FF;
     return data_word(sum);
 }
 
 static const uint16_t FIRST_SIX[6] = {0x000, 0x3FF, 0x3FF, 0x140, 0x101, 0x22E};
 
+static void put_address(const uint8_t *b, uint16_t *out) {
+    Bytes low;
+    memcpy(&low, b, sizeof low);
+    store(out, first_of(low, above(low)));
+    store(out + 8, second_of(low, above(low)));
+}
+
 static void header(unsigned number, const Settings *s, uint16_t *h) {
     memcpy(h, FIRST_SIX, sizeof FIRST_SIX);
     h[6] = byte_word(number);
     h[7] = byte_word(number >> 8 & 3);
-    crc_words(h + 3, 5, h + 8);
-    h[10] = byte_word(s->code | s->aai << 4);
-    for (int i = 0; i < 16; i++) {
-        h[11 + i] = byte_word(s->to[i]);
-        h[27 + i] = byte_word(s->from[i]);
-    }
+    register_words((uint32_t)crc_rest(CRC_START, h + 3, 5), h + 8);
+    h[10] = byte_word(s->code | s->aai << 4u);
+    put_address(s->to, h + 11);
+    put_address(s->from, h + 27);
     h[43] = byte_word(s->block);
     h[44] = byte_word(s->flag);
     for (int i = 0; i < 5; i++)
         h[45 + i] = byte_word(s->reserved[i]);
-    crc_words(h + 10, 40, h + 50);
-    h[52] = checksum(h + 3, 49);
+    register_words(crc_few(CRC_START, h + 10, 40), h + 50);
+    h[52] = (uint16_t)checksum(h + 3);
 }
 
 typedef struct {
@@ -212,24 +340,36 @@ static int writer_fault(const Writer *w, size_t length) {
     return 0;
 }
 
-// Each of the three answers 0, or 01's number.
-static int open_line(Writer *w, const Settings *s, unsigned number, uint16_t *line, size_t length) {
+// Eight words again and again.
+static inline void put_filler(Words eight, uint16_t *out, size_t n) {
+#pragma GCC unroll 9
+    for (size_t i = 0; i < n; i += 8)
+        store(out + i, eight);
+}
+
+// The lowest of 1, 2, 9 to 13 and 20 that holds, or 0.
+static int open_fault(const Writer *w, const Settings *s, unsigned number, size_t length) {
     int fault = writer_fault(w, length);
-    if (!fault && (number < 1 || number > LINES))
-        fault = 9;
-    if (!fault)
-        fault = settings_fault(s);
-    if (!fault && (w->place != NONE || (w->laid && (memcmp(s, &w->settings, sizeof *s) || number != w->number % LINES + 1))))
-        fault = 20;
     if (fault)
         return fault;
-    timing(0, 0, 1, line);
+    if (number < 1 || number > LINES)
+        return 9;
+    fault = settings_fault(s);
+    if (fault)
+        return fault;
+    return w->place != NONE || (w->laid && (memcmp(s, &w->settings, sizeof *s) || number != w->number % LINES + 1)) ? 20 : 0;
+}
+
+// Each of the three answers 0, or 01's number.
+static int open_line(Writer *w, const Settings *s, unsigned number, uint16_t *line, size_t length) {
+    int fault = open_fault(w, s, number, length);
+    if (fault)
+        return fault;
+    timing(EAV[0], line);
+    put_filler((Words){0x200, 0x040, 0x200, 0x040, 0x200, 0x040, 0x200, 0x040}, line + 56, START - 60); // and the header's last word before it
     header(number, s, line + 4);
-    for (int i = 57; i < START - 4; i++)
-        line[i] = i % 2 ? 0x040 : 0x200;
-    timing(0, 0, 0, line + START - 4);
-    for (int i = START; i < LENGTH; i++)
-        line[i] = FILLER;
+    timing(SAV[0], line + START - 4);
+    put_filler((Words){0} + FILLER, line + START, PAYLOAD);
     w->number = number;
     w->settings = *s;
     w->place = 0;
@@ -237,30 +377,157 @@ static int open_line(Writer *w, const Settings *s, unsigned number, uint16_t *li
     return 0;
 }
 
-static void put_values(int mode, const uint16_t *v, size_t n, uint16_t *out) {
-    if (mode == 8)
-        for (size_t i = 0; i < n; i++)
-            out[i] = byte_word(v[i]);
-    else
-        for (size_t i = 0; i < n; i++)
-            out[i] = data_word(v[i]);
+// Four values at a time.
+static uint64_t four_bytes(uint64_t v) {
+    uint64_t x = v ^ v << 4;
+    x ^= x << 2;
+    return v + 0x200020002000200 - ((x << 1 ^ x << 2) & 0x100010001000100);
 }
 
-static size_t min(size_t a, size_t b) { return a < b ? a : b; }
+static uint64_t four_nines(uint64_t v) { return v | (~v & 0x100010001000100) << 1; }
+
+static uint16_t word_of(int mode, unsigned v) { return mode == 8 ? byte_word(v) : data_word(v); }
+
+// Few values, which no fault has, and the CRC taken on over their words and a last one. The words are fed as they are made: what was just stored could not
+// be loaded otherwise than it was stored.
+static uint64_t put_few(int mode, const uint16_t *v, size_t n, uint64_t c, uint16_t *out) {
+    for (; n >= 4; n -= 4, v += 4, out += 4) {
+        uint64_t x = mode == 8 ? four_bytes(four(v)) : four_nines(four(v));
+        memcpy(out, &x, sizeof x);
+        c = after_sixty((c ^ beside(x)) << 20);
+    }
+    for (; n > 0; n--, v++, out++) {
+        *out = word_of(mode, *v);
+        c = crc_word(c, *out);
+    }
+    return c;
+}
+
+static inline void put_sixteen(int mode, const uint16_t *v, uint16_t *out) {
+    Words x = load(v), y = load(v + 8);
+    if (mode == 8) {
+        Bytes low = lows(x, y), high = above(low);
+        x = first_of(low, high);
+        y = second_of(low, high);
+    } else {
+        x |= (~x & 0x100) << 1;
+        y |= (~y & 0x100) << 1;
+    }
+    store(out, x);
+    store(out + 8, y);
+}
+
+// Sixteen values or more.
+static inline void put_many(int mode, const uint16_t *v, size_t n, uint16_t *out) {
+    for (size_t i = 0; i + 16 <= n; i += 16)
+        put_sixteen(mode, v + i, out + i);
+    put_sixteen(mode, v + n - 16, out + n - 16);
+}
+
+static void put_values(int mode, const uint16_t *v, size_t n, uint16_t *out) {
+    if (n < 16)
+        put_few(mode, v, n, 0, out);
+    else if (mode == 8)
+        put_many(8, v, n, out);
+    else
+        put_many(9, v, n, out);
+}
+
+// All values are below a power of two where their or is. Eight vectors side by side, so that no or waits for the one before it.
+static Words or_of_many(const uint16_t *v, size_t n) {
+    Words a = {0}, b = a, c = a, d = a, e = a, f = a, g = a, h = a;
+    for (size_t i = 0; i < n; i += 64) {
+        const uint16_t *x = v + min(i, n - 64);
+        a |= load(x), b |= load(x + 8), c |= load(x + 16), d |= load(x + 24);
+        e |= load(x + 32), f |= load(x + 40), g |= load(x + 48), h |= load(x + 56);
+    }
+    return (a | b | c | d) | (e | f | g | h);
+}
+
+static uint64_t or_of_few(const uint16_t *v, size_t n) {
+    uint64_t all = 0;
+    for (; n >= 4; n -= 4, v += 4)
+        all |= four(v);
+    for (; n > 0; n--)
+        all |= v[n - 1];
+    return all;
+}
+
+static int all_below(unsigned limit, const uint16_t *v, size_t n) {
+    uint64_t above = limit == 256 ? 0xFF00FF00FF00FF00 : 0xFE00FE00FE00FE00;
+    if (n < 64)
+        return !(or_of_few(v, n) & above);
+    Halves all = (Halves)or_of_many(v, n);
+    return !((all[0] | all[1]) & above);
+}
 
 // 17 to 20.
 static int block_fault(const Writer *w, unsigned kind, const uint16_t *v, size_t n) {
-    unsigned limit = w->mode == 8 ? 256 : 512, bad = 0;
     int fixed = w->place != NONE && w->settings.block != VARIABLE;
-    for (size_t i = 0; i < n; i++)
-        bad |= v[i] >= limit;
-    if (bad)
+    if (!all_below(w->mode == 8 ? 256 : 512, v, n))
         return 17;
-    if (n > ROOM || kind > 255 || (fixed && (n + 1 != FIXED[w->settings.block & 63].size || !kind)))
+    if (n > ROOM || kind > 255 || (fixed && (n + 1 != size_of(&w->settings) || !kind)))
         return 18;
     if (w->place != NONE && w->place >= end_of(&w->settings))
         return 19;
     return w->place == NONE || (w->laid && (w->kind != kind || w->n != n)) ? 20 : 0;
+}
+
+enum { FEW = 16 };
+
+// A place of a fixed line.
+static void lay_place(Writer *w, unsigned kind, const uint16_t *v, size_t n, uint16_t *at) {
+    at[0] = byte_word(kind);
+    if (n < FEW)
+        w->crc = (uint32_t)put_few(w->mode, v, n, crc_word(w->crc, at[0]), at + 1);
+    else {
+        put_values(w->mode, v, n, at + 1);
+        w->crc = crc_on(w->crc, at, n + 1);
+    }
+    w->place += (unsigned)n + 1;
+}
+
+// The six words before the values, and the CRC taken on over them. The last two are 200h, because n is at most 16,384.
+static uint64_t put_head(unsigned kind, size_t n, uint64_t c, uint16_t *at) {
+    uint64_t x = SEPARATOR | (uint64_t)byte_word(kind) << 16 | (uint64_t)byte_word((unsigned)n) << 32 | (uint64_t)byte_word((unsigned)n >> 8) << 48;
+    memcpy(at, &x, sizeof x);
+    at[4] = at[5] = FILLER;
+    return after_sixty(c ^ beside(x) ^ 0x802000000000000);
+}
+
+// A whole variable block.
+static void lay_whole(Writer *w, unsigned kind, const uint16_t *v, size_t n, uint16_t *at) {
+    uint64_t c = put_head(kind, n, w->crc, at);
+    if (n < FEW)
+        c = put_few(w->mode, v, n, c, at + 6);
+    else {
+        put_values(w->mode, v, n, at + 6);
+        c = crc_on((uint32_t)c, at + 6, n);
+    }
+    at[n + 6] = END_CODE;
+    w->crc = (uint32_t)crc_word(c, END_CODE);
+    w->place += (unsigned)n + 7;
+}
+
+// As many words of a variable block as fit, from the one on that was not laid before.
+static void lay_part(Writer *w, unsigned kind, const uint16_t *v, size_t n, uint16_t *at, size_t many) {
+    uint16_t head[6];
+    size_t done = 0;
+    put_head(kind, n, 0, head);
+    for (; done < many && w->laid < 6; done++)
+        at[done] = head[w->laid++];
+    size_t values = min(many - done, n + 6 - w->laid);
+    put_values(w->mode, v + (w->laid - 6), values, at + done);
+    w->laid += (unsigned)values;
+    done += values;
+    if (done < many) {
+        at[done] = END_CODE;
+        w->laid++;
+    }
+    w->crc = crc_on(w->crc, at, many);
+    w->place += (unsigned)many;
+    w->kind = kind;
+    w->n = (unsigned)n;
 }
 
 // Lays what fits of the block, where neither 1 nor 2 holds; says whether it is finished.
@@ -269,30 +536,17 @@ static int lay_block(Writer *w, unsigned kind, const uint16_t *v, size_t n, uint
     if (fault)
         return fault;
     uint16_t *at = line + START + w->place;
+    *finished = 1;
     if (w->settings.block != VARIABLE) {
-        at[0] = byte_word(kind);
-        put_values(w->mode, v, n, at + 1);
-        w->crc = crc_on(w->crc, at, n + 1);
-        w->place += n + 1;
-        *finished = 1;
+        lay_place(w, kind, v, n, at);
         return 0;
     }
-    uint16_t head[6] = {SEPARATOR, byte_word(kind), byte_word(n), byte_word(n >> 8), byte_word(n >> 16), byte_word(n >> 24)};
-    size_t many = min(area_of(&w->settings) - w->place, n + 7 - w->laid), done = 0;
-    for (; done < many && w->laid < 6; done++)
-        at[done] = head[w->laid++];
-    size_t values = min(many - done, n + 6 - w->laid);
-    put_values(w->mode, v + (w->laid - 6), values, at + done);
-    w->laid += values;
-    done += values;
-    if (done < many) {
-        at[done++] = END_CODE;
-        w->laid++;
+    size_t room = area_of(&w->settings) - w->place, left = n + 7 - w->laid;
+    if (!w->laid && left <= room) {
+        lay_whole(w, kind, v, n, at);
+        return 0;
     }
-    w->crc = crc_on(w->crc, at, done);
-    w->place += done;
-    w->kind = kind;
-    w->n = n;
+    lay_part(w, kind, v, n, at, min(room, left));
     *finished = w->laid == n + 7;
     if (*finished)
         w->laid = 0;
@@ -333,72 +587,113 @@ static int close_line(Writer *w, uint16_t *line, size_t length) {
 }
 
 // ---- checking
-static int legal_area(int mode, int variable, const uint16_t *w, size_t n) {
-    unsigned ok = 1;
+// Eight words of a chunk that is not plain: 100h in 8-bit mode, and codes in variable lines, may stand there. 0 where all may.
+static inline Words illegal(int mode, int variable, Words x) {
+    Words null = (Words)(x == NULL_WORD), code = (Words)(x == SEPARATOR) | (Words)(x == END_CODE), bad = (x - 0x100) & 0xFE00;
     if (mode == 8)
-        for (size_t i = 0; i < n; i++)
-            ok &= is_byte(w[i]) | (w[i] == NULL_WORD) | (variable & (is_code(w[i])));
-    else
-        for (size_t i = 0; i < n; i++)
-            ok &= is_data(w[i]) | (variable & (is_code(w[i])));
-    return (int)ok;
+        bad = (bad | (((Words)above((Bytes)x) << 8 ^ x) & 0xFF00)) & ~null;
+    return variable ? bad & ~code : bad;
+}
+
+// A function apart, so that a plain chunk does not pay for it.
+__attribute__((noinline)) static int legal_chunk(int mode, int variable, const uint16_t *w) {
+    Words bad = {0};
+    for (size_t i = 0; i < CHUNK; i += 8)
+        bad |= illegal(mode, variable, load(w + i));
+    return !is_any(bad);
+}
+
+// 0 where all words of the chunk have the mode's form.
+static inline Words unplain(int mode, const uint16_t *w) {
+    if (mode == 8)
+        return not_bytes(load(w), load(w + 8)) | not_bytes(load(w + 16), load(w + 24));
+    return ((load(w) - 0x100) | (load(w + 8) - 0x100) | (load(w + 16) - 0x100) | (load(w + 24) - 0x100)) & 0xFE00;
+}
+
+static inline int legal_in(int mode, int variable, const uint16_t *w, size_t n) {
+    for (size_t i = 0; i < n; i += CHUNK) {
+        const uint16_t *x = w + min(i, n - CHUNK);
+        if (is_any(unplain(mode, x)) && !legal_chunk(mode, variable, x))
+            return 0;
+    }
+    return 1;
+}
+
+// A loop for each mode.
+static int legal_area(int mode, int variable, const uint16_t *w, size_t n) { return mode == 8 ? legal_in(8, variable, w, n) : legal_in(9, variable, w, n); }
+
+// EAV and SAV stand there, and have the same F and V.
+static int timed(const uint16_t *line) {
+    const uint16_t *e = line, *s = line + START - 4;
+    unsigned fv = e[3] >> 7 & 3;
+    return e[0] == 0x3FF && !(e[1] | e[2]) && e[3] == EAV[fv] && s[0] == 0x3FF && !(s[1] | s[2]) && s[3] == SAV[fv];
+}
+
+// The lowest of 3 to 9 that holds, or 0.
+static int head_fault(const uint16_t *line) {
+    const uint16_t *h = line + 4;
+    if (!timed(line))
+        return 3;
+    if (memcmp(h, FIRST_SIX, sizeof FIRST_SIX))
+        return 4;
+    if (!(is_byte(h[6]) & is_byte(h[7]) & is_data(h[8]) & is_data(h[9]) & is_data(h[50]) & is_data(h[51]) & is_data(h[52]) & all_byte(h + 10, 40)))
+        return 5;
+    if (h[52] != checksum(h + 3))
+        return 6;
+    if (!is_register((uint32_t)crc_rest(CRC_START, h + 3, 5), h + 8))
+        return 7;
+    if (!is_register(crc_few(CRC_START, h + 10, 40), h + 50))
+        return 8;
+    unsigned number = (h[6] & 0xFFu) | (h[7] & 0xFFu) << 8;
+    return number < 1 || number > LINES ? 9 : 0;
+}
+
+static unsigned number_in(const uint16_t *line) { return (line[10] & 0xFFu) | (line[11] & 3u) << 8; }
+
+static void bytes_in(const uint16_t *w, size_t n, uint8_t *out) {
+    for (size_t i = 0; i < n; i++)
+        out[i] = (uint8_t)w[i];
+}
+
+static void settings_in(const uint16_t *line, Settings *s) {
+    const uint16_t *h = line + 4;
+    s->code = h[10] & 15;
+    s->aai = h[10] >> 4 & 15;
+    bytes_in(h + 11, 16, s->to);
+    bytes_in(h + 27, 16, s->from);
+    s->block = (uint8_t)h[43];
+    s->flag = (uint8_t)h[44];
+    bytes_in(h + 45, 5, s->reserved);
+}
+
+// The lower of 15 and 16 that holds, or 0.
+static int area_fault(int mode, const Settings *s, const uint16_t *line) {
+    size_t area = area_of(s);
+    if (!legal_area(mode, s->block == VARIABLE, line + START, area))
+        return 15;
+    if (s->flag != 1)
+        return 0;
+    if (!is_data(line[LENGTH - 2]) || !is_data(line[LENGTH - 1]))
+        return 15;
+    return is_register(crc_of(line + START, area), line + LENGTH - 2) ? 0 : 16;
 }
 
 // 01's number, or 0 with the number and settings.
 static int check(unsigned system, int mode, const uint16_t *line, size_t length, unsigned *number, Settings *s) {
+    *number = 0;
     if (unfit(system, mode, length))
         return 1;
-    uint16_t t[4];
-    int f = line[3] >> 8 & 1, v = line[3] >> 7 & 1;
-    timing(f, v, 1, t);
-    if (memcmp(t, line, sizeof t))
-        return 3;
-    timing(f, v, 0, t);
-    if (memcmp(t, line + START - 4, sizeof t))
-        return 3;
-    const uint16_t *h = line + 4;
-    if (memcmp(h, FIRST_SIX, sizeof FIRST_SIX))
-        return 4;
-    unsigned ok = is_byte(h[6]) & is_byte(h[7]) & is_data(h[8]) & is_data(h[9]) & is_data(h[50]) & is_data(h[51]) & is_data(h[52]);
-    for (int i = 10; i < 50; i++)
-        ok &= is_byte(h[i]);
-    if (!ok)
-        return 5;
-    if (h[52] != checksum(h + 3, 49))
-        return 6;
-    crc_words(h + 3, 5, t);
-    if (h[8] != t[0] || h[9] != t[1])
-        return 7;
-    crc_words(h + 10, 40, t);
-    if (h[50] != t[0] || h[51] != t[1])
-        return 8;
-    *number = (h[6] & 0xFF) | (h[7] & 3) << 8;
-    if (*number < 1 || *number > LINES || h[7] & 0xFC)
-        return 9;
-    s->code = h[10] & 15;
-    s->aai = h[10] >> 4 & 15;
-    for (int i = 0; i < 16; i++) {
-        s->to[i] = (uint8_t)h[11 + i];
-        s->from[i] = (uint8_t)h[27 + i];
-    }
-    s->block = (uint8_t)h[43];
-    s->flag = (uint8_t)h[44];
-    for (int i = 0; i < 5; i++)
-        s->reserved[i] = (uint8_t)h[45 + i];
-    int fault = settings_fault(s);
+    int fault = head_fault(line);
     if (fault)
         return fault;
-    size_t area = area_of(s);
-    if (!legal_area(mode, s->block == VARIABLE, line + START, area))
-        return 15;
-    if (s->flag == 1) {
-        if (!is_data(line[LENGTH - 2]) || !is_data(line[LENGTH - 1]))
-            return 15;
-        crc_words(line + START, area, t);
-        if (line[LENGTH - 2] != t[0] || line[LENGTH - 1] != t[1])
-            return 16;
-    }
-    return 0;
+    settings_in(line, s);
+    fault = settings_fault(s);
+    if (fault)
+        return fault;
+    fault = area_fault(mode, s, line);
+    if (!fault)
+        *number = number_in(line);
+    return fault;
 }
 
 // ---- reading
@@ -449,63 +744,120 @@ static int step(Reader *r, unsigned w) {
     return 2;
 }
 
-static void copy_values(int mode, const uint16_t *w, size_t n, uint16_t *out) {
-    unsigned mask = mode == 8 ? 0xFF : 0x1FF;
-    for (size_t i = 0; i < n; i++)
-        out[i] = w[i] & mask;
+// Values, their low bits, from one place to another.
+static void copy_values(uint16_t mask, const uint16_t *w, size_t n, uint16_t *out) {
+    for (; n >= 8; n -= 8, w += 8, out += 8)
+        store(out, load(w) & mask);
+    if (n & 4) {
+        uint64_t x = four(w) & mask * 0x1000100010001;
+        memcpy(out, &x, sizeof x);
+        w += 4, out += 4;
+    }
+    for (n &= 3; n > 0; n--)
+        *out++ = *w++ & mask;
+}
+
+// How many words stand before the first that ends a run, which are codes and, in 8-bit mode, 100h; and their values. In a chunk whose words are all from the
+// least on and below 300h no run ends.
+static size_t copy_run(int mode, const uint16_t *w, size_t n, uint16_t *out) {
+    uint16_t least = mode == 8 ? 0x101 : 0x100, mask = mode == 8 ? 0xFF : 0x1FF;
+    unsigned other = mode == 8 ? NULL_WORD : SEPARATOR;
+    size_t i = 0;
+    for (; i + CHUNK <= n; i += CHUNK) {
+        Words a = load(w + i), b = load(w + i + 8), c = load(w + i + 16), d = load(w + i + 24);
+        if (is_any(((a - least) | (b - least) | (c - least) | (d - least)) & 0xFE00))
+            break;
+        store(out + i, a & mask), store(out + i + 8, b & mask), store(out + i + 16, c & mask), store(out + i + 24, d & mask);
+    }
+    size_t from = i;
+    for (; i + 8 <= n && !is_any((load(w + i) - least) & 0xFE00); i += 8)
+        ;
+    while (i < n && !is_code(w[i]) && w[i] != other)
+        i++;
+    copy_values(mask, w + from, i - from, out + from);
+    return i;
+}
+
+// How many words stand before the first 309h.
+static size_t gap_of(const uint16_t *w, size_t n) {
+    size_t i = 0;
+    if (n && w[0] == SEPARATOR)
+        return 0;
+    for (; i + CHUNK <= n; i += CHUNK) {
+        const uint16_t *x = w + i;
+        if (is_any((Words)((load(x) == SEPARATOR) | (load(x + 8) == SEPARATOR) | (load(x + 16) == SEPARATOR) | (load(x + 24) == SEPARATOR))))
+            break;
+    }
+    while (i < n && w[i] != SEPARATOR)
+        i++;
+    return i;
+}
+
+// Six words that are a whole head of a block: its type and count are taken at once.
+static int take_head(Reader *r, const uint16_t *w) {
+    if (!is_byte(w[2]) | !is_byte(w[3]) | !is_byte(w[4]) | !is_byte(w[5]) | !(is_byte(w[1]) | (w[1] == NULL_WORD)))
+        return 0;
+    unsigned count = (w[2] & 0xFFu) | (w[3] & 0xFFu) << 8 | (w[4] & 0xFFu) << 16 | (w[5] & 0xFFu) << 24;
+    if (count > ROOM)
+        return 0;
+    r->kind = w[1] == NULL_WORD ? NULL_WORD : w[1] & 0xFFu;
+    r->bytes = 4;
+    r->count = count;
+    r->got = 0;
+    r->phase = DATA;
+    return 1;
+}
+
+// A run of values into the room: how many.
+static size_t take_run(Reader *r, const uint16_t *w, size_t n, uint16_t *room) {
+    size_t most = (r->count ? r->count : ROOM) - r->got;
+    size_t many = copy_run(r->mode, w, min(n, most), room + r->got);
+    r->got += (unsigned)many;
+    return many;
 }
 
 // On from the place to the next event, or to before place end: then the place is there.
 static int go_on(Reader *r, const uint16_t *line, size_t end, uint16_t *room) {
     const uint16_t *w = line + START;
     size_t i = r->place;
-    unsigned other = r->mode == 8 ? NULL_WORD : SEPARATOR; // where a run ends beside the codes
-    while (i < end) {
-        if (r->phase == IDLE || r->phase == DATA) {
-            size_t stop = end, from = i;
-            if (r->phase == DATA)
-                stop = min(end, i + (r->count ? r->count : ROOM) - r->got);
-            while (i < stop && !is_code(w[i]) && w[i] != other)
-                i++;
-            if (r->phase == DATA) {
-                copy_values(r->mode, w + from, i - from, room + r->got);
-                r->got += i - from;
-            }
-            if (i == end)
-                break;
+    int event = 0;
+    while (!event) {
+        if (r->phase == IDLE) {
+            i += gap_of(w + i, end - i);
+            if (end - i >= 6 && take_head(r, w + i))
+                i += 6;
         }
-        int event = step(r, w[i++]);
-        if (event) {
-            r->place = i;
-            return event;
-        }
+        if (r->phase == DATA)
+            i += take_run(r, w + i, end - i, room);
+        event = i == end ? ENDED : step(r, w[i++]);
     }
-    r->place = i;
-    return ENDED;
+    r->place = (unsigned)i;
+    return event;
 }
 
+// One of the words is 100h: four at a time, because places have few.
 static int has_null(const uint16_t *w, size_t n) {
-    unsigned found = 0;
-    for (size_t i = 0; i < n; i++)
-        found |= w[i] == NULL_WORD;
-    return (int)found;
+    uint64_t found = 0, x;
+    for (; n >= 4; n -= 4, w += 4) {
+        x = four(w) ^ 0x100010001000100;
+        found |= (x - 0x1000100010001) & ~x & 0x8000800080008000;
+    }
+    for (; n > 0; n--)
+        found |= w[n - 1] == NULL_WORD;
+    return found != 0;
 }
 
 static int next_place(Reader *r, const uint16_t *line, size_t size, size_t end, uint16_t *room) {
     while (r->place < end) {
         const uint16_t *w = line + START + r->place;
-        r->place += size;
-        if (w[0] == NULL_WORD)
+        r->place += (unsigned)size;
+        if (w[0] == NULL_WORD || w[0] == FILLER)
             continue;
-        if (!is_byte(w[0]))
-            return 2;
-        if (w[0] == FILLER)
-            continue;
-        if (r->mode == 8 && has_null(w + 1, size - 1))
+        if (!is_byte(w[0]) || (r->mode == 8 && has_null(w + 1, size - 1)))
             return 2;
         r->kind = w[0] & 0xFF;
-        r->got = size - 1;
-        copy_values(r->mode, w + 1, size - 1, room);
+        r->got = (unsigned)size - 1;
+        copy_values(r->mode == 8 ? 0xFF : 0x1FF, w + 1, size - 1, room);
         return 1;
     }
     return ENDED;
@@ -549,8 +901,7 @@ static int read_call(Reader *r, const uint16_t *line, size_t length, uint16_t *r
         return -fault;
     if (r->place == NONE)
         return start(r, line, length);
-    int event = r->settings.block == VARIABLE ? go_on(r, line, area_of(&r->settings), room)
-                                              : next_place(r, line, FIXED[r->settings.block & 63].size, end_of(&r->settings), room);
+    int event = r->settings.block == VARIABLE ? go_on(r, line, area_of(&r->settings), room) : next_place(r, line, size_of(&r->settings), end_of(&r->settings), room);
     if (event == ENDED)
         r->place = NONE;
     return event;
@@ -566,11 +917,16 @@ static int read_within(Reader *r, size_t allowance, const uint16_t *line, size_t
         return PAUSED;
     if (r->place == NONE)
         return start(r, line, length);
-    int variable = r->settings.block == VARIABLE;
-    size_t unit = variable ? 1 : FIXED[r->settings.block & 63].size, q = r->place;
-    size_t far = q + min(allowance, (end_of(&r->settings) - q) / unit) * unit;
-    int event = variable ? go_on(r, line, far, room) : next_place(r, line, unit, far, room);
-    *consumed = (r->place - q) / unit;
+    size_t q = r->place, left = end_of(&r->settings) - q;
+    int event;
+    if (r->settings.block == VARIABLE) {
+        event = go_on(r, line, q + min(allowance, left), room);
+        *consumed = r->place - q;
+    } else {
+        size_t size = size_of(&r->settings), far = min(allowance, divided(left, &r->settings)) * size;
+        event = next_place(r, line, size, q + far, room);
+        *consumed = divided(r->place - q, &r->settings);
+    }
     if (event != ENDED)
         return event;
     if (*consumed == allowance)
@@ -585,10 +941,16 @@ static uint16_t lines[BATCH][LENGTH], room[ROOM], values[MOST];
 
 static int by_list(int job) { return job == 'g' || job == 'i'; }
 
+// How many values a block has; job d has no blocks, nor have those that are made of it.
+static size_t count_of(int job) {
+    static const uint16_t counts[] = {MOST, 100, 4, 0, 0, MOST, 0, 4, 0, 1, 10, 1000, 0, 0};
+    return counts[job - 'a'];
+}
+
 static void write_round(Writer *w, const Settings *s, int job) {
-    size_t n = job == 'a' ? MOST : job == 'b' ? 100 : 4, many;
+    size_t n = count_of(job), many;
     for (int k = 0; k < BATCH; k++) {
-        int finished = job != 'd' && !by_list(job);
+        int finished = n != 0;
         if (open_line(w, s, w->number % LINES + 1, lines[k], LENGTH))
             return;
         if (by_list(job))
@@ -621,28 +983,28 @@ static void close_rounds(Writer *w, const Settings *s, int job, long rounds) {
         c = close_round(w, c);
 }
 
-static uint32_t read_round(int mode, uint32_t digest) {
-    Reader r = {.place = NONE, .mode = mode};
+static uint32_t read_round(Reader *r, uint32_t digest) {
     for (int k = 0; k < BATCH; k++) {
         int event = BEGUN;
         while (event >= 0 && event != ENDED) {
-            event = read_call(&r, lines[k], LENGTH, room, ROOM);
-            if (event == 1 || event == 2)
-                digest = digest * 31 + (uint32_t)event * 65536 + r.got + room[0];
+            event = read_call(r, lines[k], LENGTH, room, ROOM);
+            if (event == 1)
+                digest = digest * 31 + 65536 + r->got + room[0];
+            else if (event == 2)
+                digest = digest * 31 + 131072 + room[0];
         }
     }
     return digest;
 }
 
 // Slices of 64: each report goes into the digest, with what was consumed and the room's first word.
-static uint32_t slice_round(int mode, uint32_t digest) {
-    Reader r = {.place = NONE, .mode = mode};
+static uint32_t slice_round(Reader *r, uint32_t digest) {
     for (int k = 0; k < BATCH; k++) {
         uint32_t number = 2;
         while (number > 1) {
             size_t consumed;
-            int event = read_within(&r, 64, lines[k], LENGTH, room, ROOM, &consumed);
-            number = event < 0 ? 1 : event == 1 ? 65536 + r.got : event == 2 ? 3 : event == BEGUN ? 2 : event == PAUSED ? 4 : 0;
+            int event = read_within(r, 64, lines[k], LENGTH, room, ROOM, &consumed);
+            number = event < 0 ? 1 : event == 1 ? 65536 + r->got : event == 2 ? 3 : event == BEGUN ? 2 : event == PAUSED ? 4 : 0;
             digest = digest * 31 + number + (uint32_t)consumed + room[0];
         }
     }
@@ -653,16 +1015,23 @@ static uint32_t check_round(int mode, uint32_t digest) {
     for (int k = 0; k < BATCH; k++) {
         unsigned number = 0;
         Settings s;
-        digest = digest * 31 + (uint32_t)check(SYSTEM, mode, lines[k], LENGTH, &number, &s) + number;
+        digest = digest * 31 + (uint32_t)check(SYSTEM, mode, lines[k], LENGTH, &number, &s);
+        digest += number;
     }
     return digest;
 }
 
-int main(int argc, char **argv) {
-    if (argc != 5)
-        return 1;
-    int what = argv[1][0], job = argv[2][0], mode = atoi(argv[3]);
-    long rounds = atol(argv[4]);
+// A wrong word in the EAV, or in the payload CRC.
+static void spoil(int job) {
+    for (int k = 0; k < BATCH; k++) {
+        if (job == 'm')
+            lines[k][2] = 0x004;
+        if (job == 'n')
+            lines[k][LENGTH - 1] ^= 1;
+    }
+}
+
+static void write_lines(int job, int mode, long rounds) {
     int fixed = job == 'c' || job == 'g';
     Settings s = {.code = 1, .block = fixed ? 0x21 : VARIABLE, .flag = !fixed};
     memset(s.to, 1, sizeof s.to);
@@ -672,18 +1041,30 @@ int main(int argc, char **argv) {
     for (int i = MOST - 1; by_list(job) && i >= 0; i--)
         values[i] = i % 6 == 0 ? 7 : i % 6 == 1 ? 4 : values[i % 6 - 2];
     Writer w = {.place = NONE, .mode = mode, .crc = CRC_START};
-    uint32_t digest = 0;
-    long writes = what == 'w' ? rounds : 1;
-    int closing = job == 'e' || job == 'f';
-    if (closing)
-        close_rounds(&w, &s, job, writes);
-    for (long i = 0; !closing && i < writes; i++)
-        write_round(&w, &s, job);
-    for (long i = 0; what != 'w' && what != 'l' && i < rounds; i++)
-        digest = what == 'r' ? read_round(mode, digest) : what == 's' ? slice_round(mode, digest) : check_round(mode, digest);
+    if (job == 'e' || job == 'f')
+        close_rounds(&w, &s, job, rounds);
+    else
+        for (long i = 0; i < rounds; i++)
+            write_round(&w, &s, job);
+    spoil(job);
+}
+
+int main(int argc, char **argv) {
+    if (argc != 5 || argv[2][0] < 'a' || argv[2][0] > 'n')
+        return 1;
+    int what = argv[1][0], job = argv[2][0], mode = atoi(argv[3]);
+    long rounds = atol(argv[4]);
+    write_lines(job, mode, what == 'w' ? rounds : 1);
     if (what == 'l')
         return fwrite(lines, sizeof lines, 1, stdout) != 1;
-    printf("%u %u\n", crc_of(lines[0], BATCH * LENGTH), digest);
+    uint32_t digest = 0;
+    Reader r = {.place = NONE, .mode = mode};
+    for (long i = 0; what != 'w' && i < rounds; i++)
+        digest = what == 'r' ? read_round(&r, digest) : what == 's' ? slice_round(&r, digest) : check_round(mode, digest);
+    printf("%u", crc_of(lines[0], BATCH * LENGTH));
+    if (what != 'w')
+        printf(" %u", digest);
+    printf("\n");
     return 0;
 }
 #endif

@@ -39,8 +39,9 @@ static int frame_in(const uint8_t *b, uint8_t tag, unsigned *last, unsigned *pla
     return 1;
 }
 
+// With no settings lent those of the image stay.
 static void frame_out(uint8_t *b, uint8_t tag, unsigned system, int mode, unsigned last, unsigned place, const Settings *s) {
-    memset(b, 0, SDTI_STATE);
+    memset(b, 0, 37);
     b[0] = tag;
     b[1] = (uint8_t)system;
     b[2] = (uint8_t)mode;
@@ -48,7 +49,9 @@ static void frame_out(uint8_t *b, uint8_t tag, unsigned system, int mode, unsign
     put(b + 4, last, 2);
     b[6] = place != NONE;
     put(b + 8, place == NONE ? 0 : place, 8);
-    memcpy(b + 37, s, sizeof *s);
+    if (s)
+        memcpy(b + 37, s, sizeof *s);
+    b[78] = b[79] = 0;
 }
 
 static_assert(sizeof(Settings) == SDTI_SETTINGS, "settings are their bytes");
@@ -78,8 +81,8 @@ static int reader_in(const uint8_t *b, Reader *r) {
     return !any(b + 18 + r->bytes, 19 - r->bytes);
 }
 
-static void reader_out(uint8_t *b, const Reader *r) {
-    frame_out(b, 'R', r->system, r->mode, r->last, r->place, &r->settings);
+static void reader_out(uint8_t *b, const Reader *r, int whole) {
+    frame_out(b, 'R', r->system, r->mode, r->last, r->place, whole ? &r->settings : NULL);
     b[7] = (uint8_t)(r->phase < COUNT ? r->phase : r->phase == COUNT ? 2 + r->bytes : 6);
     if (r->phase < COUNT)
         return;
@@ -93,17 +96,25 @@ static void reader_out(uint8_t *b, const Reader *r) {
     }
 }
 
+// What is asked of the state before a call.
+typedef struct {
+    unsigned last;
+    int busy;
+} Before;
+
+static Before before_of(const Reader *r) { return (Before){r->last, r->phase != IDLE}; }
+
 // What is reported. The jump is folded by the frame's lines.
-static void event_out(uint8_t *b, int event, const Reader *before, const Reader *r, size_t consumed) {
+static void event_out(uint8_t *b, int event, Before before, const Reader *r, size_t consumed) {
     static const uint8_t kinds[] = {0, SDTI_BLOCK, SDTI_DROP, SDTI_BEGUN, SDTI_END, SDTI_PAUSED};
     memset(b, 0, SDTI_EVENT);
     b[0] = event < 0 ? SDTI_REFUSED : kinds[event];
     if (event < 0 || event == BEGUN) {
-        b[1] = before->phase != IDLE && r->phase == IDLE;
+        b[1] = before.busy && r->phase == IDLE;
         put(b + 4, event < 0 ? (unsigned)-event : r->last, 4);
     }
-    if (event == BEGUN && before->last) {
-        int half = LINES / 2, jump = ((int)r->last - (int)(before->last % LINES + 1) + half + LINES) % LINES - half;
+    if (event == BEGUN && before.last) {
+        int half = LINES / 2, jump = ((int)r->last - (int)(before.last % LINES + 1) + half + LINES) % LINES - half;
         b[2] = 1;
         b[3] = jump < 0;
         put(b + 8, (unsigned)abs(jump), 4);
@@ -124,14 +135,15 @@ uint32_t sdti_reader(uint8_t system, uint8_t mode, uint8_t *state, size_t state_
     Reader r = {.system = system, .place = NONE, .mode = mode};
     if (state_len != SDTI_STATE)
         return 1;
-    reader_out(state, &r);
+    reader_out(state, &r, 1);
     return 0;
 }
 
-static uint32_t told(uint8_t *state, uint8_t *event, int given, const Reader *before, const Reader *r, size_t consumed) {
+// Settings are written where a line was begun: no other call changes them.
+static uint32_t told(uint8_t *state, uint8_t *event, int given, Before before, const Reader *r, size_t consumed) {
     if (given == -1 || given == -2)
         return (uint32_t)-given;
-    reader_out(state, r);
+    reader_out(state, r, given == BEGUN);
     event_out(event, given, before, r, consumed);
     return given < 0 ? (uint32_t)-given : 0;
 }
@@ -142,9 +154,9 @@ uint32_t sdti_read(uint8_t *state, size_t state_len, const uint8_t *line, size_t
         return 1;
     if (!reader_in(state, &r))
         return 2;
-    Reader before = r;
+    Before before = before_of(&r);
     int given = read_call(&r, words_in(line), line_len / 2, words(room), room_len / 2);
-    return told(state, event, given, &before, &r, 0);
+    return told(state, event, given, before, &r, 0);
 }
 
 uint32_t sdti_read_within(uint8_t *state, size_t state_len, uint64_t allowance, const uint8_t *line, size_t line_len, uint8_t *room, size_t room_len, uint8_t *event,
@@ -155,9 +167,9 @@ uint32_t sdti_read_within(uint8_t *state, size_t state_len, uint64_t allowance, 
         return 1;
     if (!reader_in(state, &r))
         return 2;
-    Reader before = r;
+    Before before = before_of(&r);
     int given = read_within(&r, allowance, words_in(line), line_len / 2, words(room), room_len / 2, &consumed);
-    return told(state, event, given, &before, &r, consumed);
+    return told(state, event, given, before, &r, consumed);
 }
 
 // ---- writing
@@ -173,8 +185,8 @@ static int writer_in(const uint8_t *b, Writer *w) {
     return b[7] ? w->laid != 0 : !any(b + 17, 6);
 }
 
-static void writer_out(uint8_t *b, const Writer *w) {
-    frame_out(b, 'W', w->system, w->mode, w->number, w->place, &w->settings);
+static void writer_out(uint8_t *b, const Writer *w, int whole) {
+    frame_out(b, 'W', w->system, w->mode, w->number, w->place, whole ? &w->settings : NULL);
     put(b + 23, w->crc, 4);
     if (!w->laid)
         return;
@@ -188,15 +200,15 @@ uint32_t sdti_writer(uint8_t system, uint8_t mode, uint8_t *state, size_t state_
     Writer w = {.system = system, .place = NONE, .mode = mode, .crc = CRC_START};
     if (state_len != SDTI_STATE)
         return 1;
-    writer_out(state, &w);
+    writer_out(state, &w, 1);
     return 0;
 }
 
-// Any refusal leaves the state as it was.
-static uint32_t wrote(uint8_t *state, int fault, int finished, const Writer *w) {
+// Any refusal leaves the state as it was. Opening alone changes the settings.
+static uint32_t wrote(uint8_t *state, int fault, int finished, const Writer *w, int opened) {
     if (fault)
         return (uint32_t)fault;
-    writer_out(state, w);
+    writer_out(state, w, opened);
     return finished ? 0 : SDTI_UNFINISHED;
 }
 
@@ -210,7 +222,7 @@ uint32_t sdti_open(uint8_t *state, size_t state_len, bool f, bool v, uint32_t nu
         return 2;
     memcpy(&s, settings, sizeof s);
     int fault = open_line(&w, &s, number, words(line), line_len / 2);
-    return wrote(state, fault, 1, &w);
+    return wrote(state, fault, 1, &w, 1);
 }
 
 uint32_t sdti_add(uint8_t *state, size_t state_len, uint32_t kind, const uint8_t *values, size_t values_len, uint8_t *line, size_t line_len) {
@@ -221,7 +233,7 @@ uint32_t sdti_add(uint8_t *state, size_t state_len, uint32_t kind, const uint8_t
     if (!writer_in(state, &w))
         return 2;
     int fault = add_block(&w, kind, words_in(values), values_len / 2, words(line), line_len / 2, &finished);
-    return wrote(state, fault, finished, &w);
+    return wrote(state, fault, finished, &w, 0);
 }
 
 // What was laid before a refusal stays laid.
@@ -236,7 +248,7 @@ uint32_t sdti_add_many(uint8_t *state, size_t state_len, const uint8_t *blocks, 
     if (fault == 1 || fault == 2)
         return (uint32_t)fault;
     *finished = many;
-    writer_out(state, &w);
+    writer_out(state, &w, 0);
     return fault ? (uint32_t)fault : blocks_len && w.laid ? SDTI_UNFINISHED : 0;
 }
 
@@ -247,5 +259,5 @@ uint32_t sdti_close(uint8_t *state, size_t state_len, uint8_t *line, size_t line
     if (!writer_in(state, &w))
         return 2;
     int fault = close_line(&w, words(line), line_len / 2);
-    return wrote(state, fault, 1, &w);
+    return wrote(state, fault, 1, &w, 0);
 }

@@ -1,7 +1,5 @@
 pub mod Over
 pub mod Calls
 pub mod Lists
-pub mod Beyond
 pub mod Unlent
 pub mod Given
-pub mod Entries

@@ -8,7 +8,6 @@ use lib.ListN.{length}
 use Rattle.writer.specs.declared.state.Writer.{Writer}
 use Rattle.writer.specs.declared.state.Laid.{Laid}
 use Rattle.writer.specs.declared.state.Laid.the-variants.{Refused as NotLaid, Finished, Unfinished as PartLaid}
-use Rattle.writer.specs.declared.batch.Stop.{Stop}
 use Rattle.writer.specs.declared.batch.Stop.the-variants.{Refused}
 use Rattle.writer.specs.Answers.{Added}
 use Rattle.writer.specs.Adding.{adding}
@@ -61,10 +60,6 @@ all-over (whole kind vs ∷ es) w x y done same =
     ∙ ap (batched _ _ _) (over-on m (all-moves es (z .state) (z .line) (suc done)) y same) in
     ap (λ (a : Laid). behind a z′ done (layAll (z′ .state) (z′ .line) (suc done) es)) (ap (λ (q : Added). q .answer) e)
     ∙ behind-over (z .answer) w y z z′ done _ _ (ap (λ (q : Added). q .state) e) (ap (λ (q : Added). q .line) e) rest
-
--- what a batch that was put together is
-pub ended-is : {n n′ : ℕ} {stop stop′ : Stop} {st st′ : Writer} {line : List ℕ} {b : Batched} → (n ≡ n′) × (stop ≡ stop′) × (st ≡ st′) → batched n′ stop′ st′ line ≡ b → batched n stop st line ≡ b
-ended-is e h = cc (e .0, e .1, e .2, h)
 
 -- ---- a whole call
 module _ (w : Writer) (x blocks : List ℕ) where

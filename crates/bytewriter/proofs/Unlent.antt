@@ -11,7 +11,7 @@ use lib.Seq.{paste}
 use borrow.Author.Tests.{ne-eqb, leb-false, leb-true, eqb-true}
 use Rattle.lists.specs.Tests.{pick}
 use Rattle.lists.proofs.Tests.{pick-true, and-none, and-true, both-true, true-false}
-use Rattle.lists.proofs.Refusals.{LowestOf, low-hit, low-miss, clear-lowest}
+use Rattle.lists.proofs.Refusals.{LowestOf, low-hit}
 use Rattle.words.specs.Modes.{isMode}
 use Rattle.line.specs.declared.settings.Settings.{Settings}
 use Rattle.line.specs.Systems.{systemOf, isSystem}
@@ -32,12 +32,11 @@ use Rattle.writer.specs.Opening.{openFaults, openFault, opening}
 use Rattle.writer.specs.Adding.{addFaults, addFault, adding}
 use Rattle.writer.specs.Packing.{packFaults, packFault, packing}
 use Rattle.writer.specs.Closing.{closeFaults, closeFault, closing}
-use Rattle.writer.specs.Batch.{entriesOf, Batched, batched, layAll, batchFaults, batchFault, batching}
-use Rattle.writer.specs.State.{impossible}
+use Rattle.writer.specs.Batch.{Batched, batched}
 use Rattle.writer.proofs.StateLaws.{not-opened}
 use Rattle.writer.proofs.Calls.{add-refused, close-refused}
 use Rattle.writer.proofs.Packs.{pack-refused}
-use Rattle.writer.proofs.BatchLaws.{batch-refused, batch-laid}
+use Rattle.bytevalues.proofs.Batches.{batch-1}
 use Rattle.bytewriter.specs.Bytewise.{openBytes, addBytes, manyBytes, packBytes, closeBytes}
 
 -- ---- a longer line fits no system
@@ -70,22 +69,6 @@ module _ (w : Writer) (line : List ℕ) (unfit : fitsLength (w .system) (w .mode
   close-1 : closing w line ≡ left (Refused 1) w line
   unfolding closeFault
   close-1 = let l : LowestOf (closeFaults w (length line)) 1 = low-hit 1 (ap not unfit) in sym (close-refused w line 1 (l .is) one)
-
-  pub batch-1 : (blocks : List ℕ) → batching w line blocks ≡ batched 0 (Stopped 1) w line
-  unfolding batchFault
-  batch-1 blocks = let l : LowestOf (batchFaults w (length line)) 1 = low-hit 1 (ap not unfit) in sym (batch-refused w line blocks 1 (l .is) one)
-
--- ---- 1, 2 and neither, of a list
-module _ (w : Writer) (line blocks : List ℕ) (fit : fitsLength (w .system) (w .mode) (length line) ≡ true) where
-  pub batch-2 : impossible w ≡ true → batched 0 (Stopped 2) w line ≡ batching w line blocks
-  unfolding batchFault
-  batch-2 e =
-      let l : LowestOf (batchFaults w (length line)) 2 = low-miss 1 (ap not fit) (low-hit 2 e) in
-      batch-refused w line blocks 2 (l .is) (λ z. omega (arith, z))
-
-  pub batch-all : impossible w ≡ false → batching w line blocks ≡ layAll w line 0 (entriesOf blocks)
-  unfolding batchFault
-  batch-all e = batch-laid w line blocks (clear-lowest (batchFaults w (length line)) (ap not fit, (e, tt)))
 
 -- ---- not lent: odd, or too long
 unlent : {X : Type 0} (a b : Bool) (x y : X) → (a && b) ≡ false → (a ≡ true → b ≡ false → x ≡ y) → pick a x y ≡ y

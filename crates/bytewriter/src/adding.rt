@@ -1,65 +1,14 @@
 // A block added, its values and the line lent as bytes: what was laid goes back, and no other byte is written.
 use crate::lent;
-use crate::values;
 use line::systems;
 use writer::adding::Addition;
 use writer::state::Laid;
 use writer::state::Writer;
 ghost use mathlib.Core.Path.{_≡_};
-ghost use Prim.Native.Nat.{_<_, _≤_};
-ghost use lib.ListN.{length};
 ghost use Rattle.line.specs.Systems.{systemOf};
 ghost use Rattle.line.specs.Layout.{payloadAt};
-ghost use Rattle.octets.specs.Bytes.{wordsOf};
 ghost use Rattle.writer.specs.Answers.{added};
-ghost use Rattle.writer.specs.Adding.{adding};
 ghost use Rattle.bytewriter.specs.Bytewise.{addBytes};
-
-// Few values, as nearly every block has.
-fn add_few(w: Writer, kind: u16, values: &[u8], line: &mut [u16]) -> Addition
-    requires { ⌜ length (now values) ≤ 1025 ⌝ }
-    ensures { λ r. ⌜ added (r .answer) (r .state) (now (line .exit)) ≡ adding w (now (line .entry)) kind (wordsOf (now (values .entry))) ⌝ }
-{
-    let n = values.len() / 2;
-    let mut vs = [0u16; 512];
-    octets::words_of(values, &mut vs);
-    writer::adding::add_block(w, kind, &vs[..n], line)
-}
-
-// As many as may be, and one more.
-fn add_many(w: Writer, kind: u16, values: &[u8], line: &mut [u16]) -> Addition
-    requires { ⌜ length (now values) ≤ 32771 ⌝ }
-    ensures { λ r. ⌜ added (r .answer) (r .state) (now (line .exit)) ≡ adding w (now (line .entry)) kind (wordsOf (now (values .entry))) ⌝ }
-{
-    let n = values.len() / 2;
-    let mut vs = [0u16; 16385];
-    octets::words_of(values, &mut vs);
-    writer::adding::add_block(w, kind, &vs[..n], line)
-}
-
-// Too many: 1, 2, 17 or 18, whichever is lowest. Of the values only 17 asks, so others as long stand for them.
-fn add_too_many(w: Writer, kind: u16, values: &[u8], line: &mut [u16]) -> Addition
-    requires { ⌜ 32771 < length (now values) ⌝ }
-    ensures { λ r. ⌜ added (r .answer) (r .state) (now (line .exit)) ≡ adding w (now (line .entry)) kind (wordsOf (now (values .entry))) ⌝ }
-{
-    let limit = words::forms::values_of(w.mode);
-    let mut vs = [0u16; 16385];
-    vs[0] = values::stand_in(limit, values);
-    writer::adding::add_block(w, kind, &vs, line)
-}
-
-// The writer's addition, with values lent as bytes.
-pub(crate) fn add_valued(w: Writer, kind: u16, values: &[u8], line: &mut [u16]) -> Addition
-    ensures { λ r. ⌜ added (r .answer) (r .state) (now (line .exit)) ≡ adding w (now (line .entry)) kind (wordsOf (now (values .entry))) ⌝ }
-{
-    if values.len() <= 1025 {
-        return add_few(w, kind, values, line);
-    }
-    if values.len() <= 32771 {
-        return add_many(w, kind, values, line);
-    }
-    add_too_many(w, kind, values, line)
-}
 
 // Where the payload starts.
 pub(crate) fn payload_at(system: u8) -> usize
@@ -81,7 +30,7 @@ pub fn add_block(w: Writer, kind: u16, values: &[u8], line: &mut [u8]) -> Additi
     }
     let long = line.len() / 2;
     let mut words = [0u16; 2304];
-    let r = add_valued(w, kind, values, &mut words[..long]);
+    let r = bytevalues::adding::add_valued(w, kind, values, &mut words[..long]);
     let state = r.state;
     let before = w.place;
     let after = state.place;

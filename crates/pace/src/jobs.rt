@@ -1,6 +1,6 @@
 // What the jobs write: a variable blocks of 10,000 values, flag 01h; b of 100 values; c fixed blocks 21h, flag 00h; d filler lines,
 // flag 01h; e filler lines closed again and again, f lines full of a's blocks closed again and again; g c's blocks, those of a line in one list;
-// h variable blocks of 4 values, flag 01h, and i the same in one list.
+// h variable blocks of 4 values, flag 01h, and i the same in one list; j variable blocks of 1 value, k of 10, l of 1,000, flag 01h.
 use line::settings::Settings;
 ghost use mathlib.Core.Path.{_≡_};
 ghost use Prim.Native.Nat.{_≤_};
@@ -20,6 +20,9 @@ pub(crate) fn count_of(job: u8) -> usize
         b'b' => 100,
         b'c' | b'h' => 4,
         b'g' | b'i' => 1800,
+        b'j' => 1,
+        b'k' => 10,
+        b'l' => 1000,
         _ => 0,
     }
 }

@@ -1,4 +1,4 @@
-// Eight lines written: each is opened, filled with blocks, by single calls or in one list, and closed. In jobs e and f only the first is opened and filled, once, and each is
+// Lines written: each is opened, filled with blocks, by single calls or in one list, and closed. In jobs e and f only the first is opened and filled, once, and each is
 // closed in the state that the first was in.
 use crate::jobs;
 use lines::closing;

@@ -1,4 +1,4 @@
-// Eight lines read by a fresh reader in slices of 64 words.
+// Lines read by a reader in slices of 64 words; each report goes into the digest.
 use reader::state;
 use reader::state::Event;
 use reader::state::Reader;
@@ -76,39 +76,28 @@ fn read_line(heard: Heard, line: &[u16], room: &mut [u16]) -> Heard {
     now
 }
 
-// Line k of the eight.
+// Line k of the eight, which come again and again.
 fn read_nth(heard: Heard, k: usize, batch: &[u16], room: &mut [u16]) -> Heard {
-    if 7 < k {
-        return heard;
-    }
-    let a = k * 1716;
-    let e = a + 1716;
+    let from = k % 8 * 1716;
+    let e = from + 1716;
     if e <= batch.len() {
-        return read_line(heard, &batch[a..e], room);
+        return read_line(heard, &batch[from..e], room);
     }
     heard
 }
 
-fn read_round(mode: u8, batch: &[u16], room: &mut [u16], digest: u32) -> u32 {
+// One reader hears the eight lines of all rounds.
+pub(crate) fn read_rounds(mode: u8, rounds: u16, batch: &[u16], room: &mut [u16]) -> u32 {
     let mut now = Heard {
         reader: state::fresh_reader(0, mode),
-        digest: digest,
+        digest: 0,
         more: true,
     };
-    let mut k = 0usize;
-    while k < 8 {
-        now = read_nth(now, k, batch, room);
-        k += 1;
-    }
-    now.digest
-}
-
-pub(crate) fn read_rounds(mode: u8, rounds: u16, batch: &[u16], room: &mut [u16]) -> u32 {
-    let mut digest = 0u32;
-    let mut i = 0u16;
-    while i < rounds {
-        digest = read_round(mode, batch, room, digest);
+    let lines = rounds as usize * 8;
+    let mut i = 0usize;
+    while i < lines {
+        now = read_nth(now, i, batch, room);
         i += 1;
     }
-    digest
+    now.digest
 }

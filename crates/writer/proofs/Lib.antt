@@ -16,3 +16,4 @@ pub mod NumberLaws
 pub mod BatchLaws
 pub mod Samples
 pub mod PlaceLaws
+pub mod Placing

@@ -9,3 +9,4 @@ pub mod Closing
 pub mod Filling
 pub mod Batch
 pub mod Ground
+pub mod Placing

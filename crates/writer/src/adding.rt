@@ -17,6 +17,7 @@ ghost use Rattle.line.specs.Fixed.{isVariable, sizeOf};
 ghost use Rattle.writer.specs.Answers.{laidNumbers, added};
 ghost use Rattle.writer.specs.Numbers.{allFits, laidBy};
 ghost use Rattle.writer.specs.Adding.{valued, illShaped, isFull, isOther, addFault, adding};
+ghost use Rattle.writer.specs.Placing.{placing};
 ghost use Rattle.writer.specs.Batch.{batchFault};
 ghost use Rattle.writer.specs.Ground.{heldBy, Grounds, Standing, blockFaults, IsStep, filled};
 
@@ -280,4 +281,38 @@ pub fn add_block(w: Writer, kind: u16, values: &[u16], line: &mut [u16]) -> Addi
     let e = a + k;
     let c = block::lay_place(g.mode, kind, values, h.crc, &mut line[a..e]);
     told(w, placed(place + k, c))
+}
+
+// A block of a fixed line whose place alone is lent, and not the line: of that only the length is asked.
+pub fn add_place(w: Writer, long: usize, kind: u16, values: &[u16], place: &mut [u16]) -> Addition
+    ensures { λ r. ⌜ added (r .answer) (r .state) (now (place .exit)) ≡ placing w long kind (now (values .entry)) (now (place .entry)) ⌝ }
+{
+    let k = values.len() + 1;
+    if line::fixed::is_variable(w.settings.block) | (place.len() != k) {
+        return Addition {
+            answer: Laid::Refused(1),
+            state: w,
+        };
+    }
+    let x = ask(w, long);
+    let early = x.fault;
+    if early != 0 {
+        return Addition {
+            answer: Laid::Refused(early),
+            state: w,
+        };
+    }
+    let g = x.ground;
+    let h = held_in(w);
+    let fault = block_fault(g, h, kind, values);
+    if fault != 0 {
+        return Addition {
+            answer: Laid::Refused(fault),
+            state: w,
+        };
+    }
+    let at = h.place;
+    let p = course::place_of(at);
+    let c = block::lay_place(g.mode, kind, values, h.crc, place);
+    told(w, placed(p + k, c))
 }

@@ -6,10 +6,10 @@ use Rattle.pace.proofs.run_all.Statement.{statement}
 use Rattle.pace.proofs.run_all.Tie as tie
 
 abbrev Inv-loop : tie.InvT-loop
-Inv-loop batch₀ room₀ k₀ batch room k = k ≤ 34
+Inv-loop batch₀ k₀ batch k = k ≤ 24
 
 abbrev μ-loop : tie.MeasureT-loop
-μ-loop batch₀ room₀ k₀ batch room k = 34 - k
+μ-loop batch₀ k₀ batch k = 24 - k
 
 pub run-all-spec : {M : Type 1} → statement M
 run-all-spec =

@@ -7,7 +7,6 @@ use lib.ListN.{replicate}
 use borrow.Author.Tests.{not-false}
 use Rattle.lists.proofs.Tests.{or-false}
 use Rattle.octets.specs.Bytes.{isEven}
-use Rattle.bytewriter.proofs.Lists.{ended-is}
 use Rattle.bytewriter.proofs.Unlent.{lent, many-unlent}
 use Rattle.bytewriter.proofs.Given.{most-in, zeros-in, Given, part-in, part-long, line-long, many-in, many-given}
 use borrow.Author.Needs.{needs}
@@ -16,13 +15,11 @@ use Rattle.bytewriter.proofs.batch.add_blocks.Tie as tie
 
 returns : tie.Need-returns
 returns c =
-    let t = c .before in
-    let e = t .before in
+    let e = c .before in
     let s = e .before .before .before in
     let a = s .before .before .args in
-    ended-is (c .ended .ensures)
-    (many-unlent (a .w) (a .line .now) (λ i. omega (arith, s .slice-known .given i)) (a .blocks .now)
-    (ap₂ (λ (p q : Bool). not p || not q) (sym (e .before .is-lent .ensures)) (sym (e .is-even .ensures)) ∙ t .if1 .taken))
+    many-unlent (a .w) (a .line .now) (λ i. omega (arith, s .slice-known .given i)) (a .blocks .now)
+    (ap₂ (λ (p q : Bool). not p || not q) (sym (e .before .is-lent .ensures)) (sym (e .is-even .ensures)) ∙ c .if1 .taken)
 
 is-lent : (c : tie.Else1) → lent (c .before .before .before .before .before .before .args .line .now) ≡ true
 is-lent c = sym (c .before .before .is-lent .ensures) ∙ not-false _ (or-false (not (c .before .before .is-lent .result)) _ (c .if1 .left) .0)
@@ -69,7 +66,7 @@ pub add-blocks-spec : {M : Type 1} → statement M
 add-blocks-spec =
     tie.close (tie.spec
     (need tie.Need-is-lent-requires (λ c κs. search needs)) (need tie.Need-is-even-requires (λ c κs. search needs))
-    (need tie.Need-ended-requires (λ c κs. search needs)) (need tie.Need-same-length (λ c. search needs)) returns array-borrow-prefix-words
+    (need tie.Need-same-length (λ c. search needs)) returns array-borrow-prefix-words
     slice-aggregate-add-listed (need tie.Need-add-listed-requires (λ c κs. search needs)) (need tie.Need-payload-at-requires (λ c κs. search needs))
     array-share-prefix-words slice-aggregate-give-back (need tie.Need-place-of-requires (λ c κs. search needs))
     (need tie.Need-place-of-requires-2 (λ c κs. search needs)) give-back-requires (need tie.Need-same-length-2 (λ c. search needs)) returns-2)

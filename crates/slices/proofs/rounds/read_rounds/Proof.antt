@@ -8,15 +8,16 @@ use Rattle.slices.proofs.rounds.read_rounds.Statement.{statement}
 use Rattle.slices.proofs.rounds.read_rounds.Tie as tie
 
 abbrev Inv-loop : tie.InvT-loop
-Inv-loop mode rounds batch room₀ digest₀ i₀ room digest i = (i ≤ rounds) × (length room ≡ length room₀)
+Inv-loop mode rounds batch room₀ now₀ lines i₀ room now i = (i ≤ lines) × (length room ≡ length room₀)
 
 abbrev μ-loop : tie.MeasureT-loop
-μ-loop mode rounds batch room₀ digest₀ i₀ room digest i = rounds - i
+μ-loop mode rounds batch room₀ now₀ lines i₀ room now i = lines - i
 
 pub read-rounds-spec : {M : Type 1} → statement M
 read-rounds-spec =
     tie.close (tie.spec
-    Inv-loop μ-loop (need (tie.Need-loop-holds Inv-loop μ-loop) (λ c. search needs))
-    (need (tie.Need-read-round-requires Inv-loop μ-loop) (λ c κs. search needs)) (need (tie.Need-add-i Inv-loop μ-loop) (λ c. search needs))
+    Inv-loop μ-loop (need (tie.Need-fresh-reader-requires Inv-loop μ-loop) (λ c κs. search needs))
+    (need (tie.Need-mul-lines Inv-loop μ-loop) (λ c. search needs)) (need (tie.Need-loop-holds Inv-loop μ-loop) (λ c. search needs))
+    (need (tie.Need-read-nth-requires Inv-loop μ-loop) (λ c κs. search needs)) (need (tie.Need-add-i Inv-loop μ-loop) (λ c. search needs))
     (need (tie.Need-loop-less Inv-loop μ-loop) (λ c. search needs)) (need (tie.Need-loop-again Inv-loop μ-loop) (λ c. search needs))
     (need (tie.Need-same-length Inv-loop μ-loop) (λ c. search needs)) (need (tie.Need-returns Inv-loop μ-loop) (λ c. search needs)))

@@ -1,0 +1,3 @@
+pub mod Batches
+mod Beyond
+mod Entries
