@@ -11,7 +11,7 @@ use lib.Seq.{length-take-le, take-all}
 use borrow.Rule.Slice.PartMut.{putMid}
 use borrow.Author.Tests.{eq-eqb, ne-eqb}
 use Rattle.lists.proofs.Tests.{lt-or-le, pick-true, pick-false}
-use Rattle.packets.proofs.Parts.{second-long, both-back}
+use Rattle.lists.proofs.Parts.{second-long, both-back}
 use Rattle.lists.proofs.Lists.{map-part}
 use Rattle.words.specs.Forms.{byteWord, dataWord}
 use Rattle.words.specs.Modes.{wordOf}

@@ -9,7 +9,7 @@ use borrow.Rule.Slice.PartMut.{putMid}
 use borrow.Author.Tests.{eq-eqb, ne-eqb}
 use Rattle.lists.specs.Tests.{pick}
 use Rattle.lists.proofs.Tests.{pick-true, pick-false}
-use Rattle.packets.proofs.Parts.{both-back, behind}
+use Rattle.lists.proofs.Parts.{both-back, behind}
 use Rattle.words.specs.Crc.{crcOf}
 use Rattle.blocks.specs.Block.{blockWords}
 use Rattle.blocks.specs.Laid.{laidIn, crcIn}

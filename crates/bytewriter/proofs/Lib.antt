@@ -3,3 +3,4 @@ pub mod Calls
 pub mod Lists
 pub mod Unlent
 pub mod Given
+pub mod Placed

@@ -1,6 +1,6 @@
 // A line lent as bytes, and what goes back to it.
 ghost use mathlib.Core.Path.{_≡_};
-ghost use mathlib.Core.Bool.{_&&_};
+ghost use mathlib.Core.Bool.{true, _&&_};
 ghost use Prim.Native.Nat.{_+_, _-_, _*_, _<_, _≤_};
 ghost use lib.Dec.{leb};
 ghost use lib.ListN.{length, drop};
@@ -27,4 +27,18 @@ pub(crate) fn give_back(words: &[u16], start: usize, before: usize, after: usize
     let from = 2 * a;
     let to = 2 * e;
     octets::bytes_of(&words[a..e], &mut line[from..to]);
+}
+
+// The words of a place go back as bytes from word start + before on, as many as lie between; where nothing was laid, none does.
+pub(crate) fn give_place(place: &[u16], start: usize, before: usize, after: usize, line: &mut [u8])
+    requires { ⌜ (before < after → (start + after ≤ length (wordsOf (now line))) × (after - before ≤ length (now place))) × (isEven (now line) ≡ true) ⌝ }
+    ensures { λ _. ⌜ now (line .exit) ≡ bytesOf (paste (wordsOf (now (line .entry))) (start + before) (now (place .entry)) (after - before)) ⌝ }
+{
+    if after <= before {
+        return;
+    }
+    let k = after - before;
+    let from = 2 * (start + before);
+    let to = 2 * (start + after);
+    octets::bytes_of(&place[..k], &mut line[from..to]);
 }

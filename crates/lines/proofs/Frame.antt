@@ -13,7 +13,7 @@ use Rattle.line.specs.Timing.{timingWords}
 use Rattle.line.specs.Header.{headerWords}
 use Rattle.line.specs.Layout.{gapWords, framed}
 use Rattle.line.proofs.GapLaws.{gap-none}
-use Rattle.packets.proofs.Parts.{second-long}
+use Rattle.lists.proofs.Parts.{second-long}
 use Rattle.writer.specs.Opening.{openWords}
 
 -- ---- an opened line

@@ -4,3 +4,4 @@ pub mod Refusals
 pub mod Lists
 pub mod Loops
 pub mod Samples
+pub mod Parts

@@ -1,4 +1,3 @@
-pub mod Parts
 pub mod PacketLaws
 pub mod PacketBack
 pub mod ListLaws

@@ -10,7 +10,7 @@ use lib.Seq.{length-take-le}
 use Rattle.line.specs.Timing.{timingWords}
 use Rattle.line.specs.Layout.{gapWords}
 use Rattle.line.proofs.GapLaws.{gap-length}
-use Rattle.packets.proofs.Parts.{by-two}
+use Rattle.lists.proofs.Parts.{by-two}
 use borrow.Author.Needs.{needs}
 use Rattle.lines.proofs.opening.put_from_gap.Statement.{statement}
 use Rattle.lines.proofs.opening.put_from_gap.Tie as tie

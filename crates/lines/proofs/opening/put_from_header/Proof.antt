@@ -10,7 +10,7 @@ use lib.Seq.{length-take-le}
 use Rattle.line.specs.Timing.{timingWords}
 use Rattle.line.specs.Header.{headerWords}
 use Rattle.line.specs.Layout.{gapWords}
-use Rattle.packets.proofs.Parts.{by-two}
+use Rattle.lists.proofs.Parts.{by-two}
 use Rattle.blocks.proofs.LaidLaws.{laid-all}
 use borrow.Author.Needs.{needs}
 use Rattle.lines.proofs.opening.put_from_header.Statement.{statement}

@@ -6,7 +6,7 @@ use Prim.Native.Nat.{ℕ}
 use lib.ListN.{length, replicate}
 use lib.Seq.{length-take-le}
 use Rattle.line.specs.Timing.{timingWords}
-use Rattle.packets.proofs.Parts.{by-two}
+use Rattle.lists.proofs.Parts.{by-two}
 use Rattle.blocks.proofs.LaidLaws.{laid-all}
 use borrow.Author.Needs.{needs}
 use Rattle.lines.proofs.opening.put_payload.Statement.{statement}

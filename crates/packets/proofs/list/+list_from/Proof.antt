@@ -9,7 +9,7 @@ use borrow.Author.Needs.{needs}
 use Rattle.packets.specs.declared.list.Listed.{Listed}
 use Rattle.packets.specs.Gap.{Found, listIn}
 use Rattle.packets.specs.Listing.{outcome, listedOf}
-use Rattle.packets.proofs.Parts.{first-back, second-long, both-back, rest-of}
+use Rattle.lists.proofs.Parts.{first-back, second-long, both-back, rest-of}
 use Rattle.packets.proofs.PacketLaws.{good}
 use Rattle.packets.proofs.PacketBack.{counted}
 use Rattle.packets.proofs.ListLaws.{WholeAt, list-nothing, nothing-told, bad-told, whole-told, listed-small, listed-more}

@@ -11,7 +11,7 @@ use Rattle.lists.proofs.Lists.{length-part}
 use Rattle.line.specs.Check.{low}
 use Rattle.packets.specs.Packet.{entryOf}
 use Rattle.packets.specs.Gap.{countAt, value, packetAt}
-use Rattle.packets.proofs.Parts.{by-two}
+use Rattle.lists.proofs.Parts.{by-two}
 use borrow.Author.Needs.{needs}
 use Rattle.packets.proofs.list.list_one.Statement.{statement}
 use Rattle.packets.proofs.list.list_one.Tie as tie

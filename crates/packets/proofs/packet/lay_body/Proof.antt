@@ -9,7 +9,7 @@ use lib.Seq.{length-take-le, take-at}
 use Rattle.words.specs.Forms.{byteWord, dataWord}
 use Rattle.words.proofs.FormLaws.{byte-of-low}
 use Rattle.packets.specs.Packet.{bodyWords}
-use Rattle.packets.proofs.Parts.{by-two}
+use Rattle.lists.proofs.Parts.{by-two}
 use borrow.Author.Needs.{needs}
 use Rattle.packets.proofs.packet.lay_body.Statement.{statement}
 use Rattle.packets.proofs.packet.lay_body.Tie as tie

@@ -8,7 +8,7 @@ use lib.ListN.{length, take, drop, length-map}
 use lib.Seq.{length-take-le, take-at}
 use Rattle.words.specs.Checksum.{checksum}
 use Rattle.packets.specs.Packet.{bodyWords}
-use Rattle.packets.proofs.Parts.{by-two}
+use Rattle.lists.proofs.Parts.{by-two}
 use Rattle.packets.proofs.PacketBack.{body-long}
 use borrow.Author.Needs.{needs}
 use Rattle.packets.proofs.packet.lay_summed.Statement.{statement}

@@ -9,7 +9,7 @@ use lib.Seq.{length-take-le, take-at}
 use Rattle.words.specs.Checksum.{checksum}
 use Rattle.line.specs.Header.{flagWords}
 use Rattle.packets.specs.Packet.{bodyWords, packetWords}
-use Rattle.packets.proofs.Parts.{by-two}
+use Rattle.lists.proofs.Parts.{by-two}
 use borrow.Author.Needs.{needs}
 use Rattle.packets.proofs.packet.lay_whole.Statement.{statement}
 use Rattle.packets.proofs.packet.lay_whole.Tie as tie
