@@ -21,7 +21,7 @@ JOBS = {
     "n": "lines refused with 16",
 }
 MODES = 8, 9
-READ = "abcdjkl"  # jobs whose lines are read; all but those that are written alone are checked
+READ = "abcdjkl"  # jobs whose lines are read, in slices too, and checked, where digests are compared
 ROWS = [*(("write", job) for job in "abcdefghijkl"), *(("read", job) for job in "abcjkl"), *(("slice", job) for job in "abc"), *(("check", job) for job in "cdmn")]
 # jobs that bench/host.c does
 THROUGH = [*(("write", job) for job in "abcgijkl"), *(("read", job) for job in "abcjkl"), *(("slice", job) for job in "abc")]

@@ -2,16 +2,17 @@
 -- Assumes nothing.
 use mathlib.Core.Path.{_≡_, refl, sym, ap, ap₂, _∙_}
 use mathlib.Core.Logic.{⊎-elim}
-use mathlib.Core.List.{List, [], _∷_, _++_, map}
+use mathlib.Core.List.{List, [], _∷_, _++_, map, append-assoc}
 use Prim.Native.Nat.{ℕ, zero, suc, _+_, _-_, _≤_, min}
 use native.Mathlib.Nat.{zero-sub, sub-zero, suc-sub-suc}
 use native.Mathlib.Omega.{arith}
-use lib.ListN.{length, take, drop, set, length-drop, drop-of-length-le}
-use lib.Seq.{length-take-le, take-all}
+use lib.ListN.{length, take, drop, set, length-append, length-drop, drop-of-length-le}
+use lib.Seq.{length-take-le, take-all, drop-at, drop-drop}
 use borrow.Rule.Slice.PartMut.{putMid}
 use borrow.Author.Tests.{eq-eqb, ne-eqb}
 use Rattle.lists.proofs.Tests.{lt-or-le, pick-true, pick-false}
-use Rattle.lists.proofs.Parts.{second-long, both-back}
+use Rattle.lists.proofs.Parts.{both-back, rest-of}
+use Rattle.blocks.specs.Laid.{laidOn}
 use Rattle.lists.proofs.Lists.{map-part}
 use Rattle.words.specs.Forms.{byteWord, dataWord}
 use Rattle.words.specs.Modes.{wordOf}
@@ -59,7 +60,7 @@ take-least k l =
     (λ h. take-all k l h ∙ sym (take-all (min k (length l)) l (omega arith)))
     (lt-or-le k (length l))
 
-pub drop-least : (j : ℕ) (l : List ℕ) → drop j l ≡ drop (min j (length l)) l
+drop-least : (j : ℕ) (l : List ℕ) → drop j l ≡ drop (min j (length l)) l
 drop-least j l =
     ⊎-elim (λ h. let e : j ≡ min j (length l) = omega arith in ap (λ (i : ℕ). drop i l) e)
     (λ h. drop-of-length-le l {i = j} h ∙ sym (drop-of-length-le l {i = min j (length l)} (omega arith)))
@@ -91,6 +92,13 @@ pub part-long : (j b m : ℕ) (d l : List ℕ) → m ≡ min (length d) (length 
 part-long j b m d l e h =
     front-long (length l) j m d e ∙ sym (ap length (part-of b m l) ∙ length-take-le m (drop b l) (rw (length-drop b l) (omega arith)))
 
+-- behind a and b, which have n and k words, from word j on
+behind : (j n m k p q : ℕ) (d : List ℕ) → m ≡ min (length d) (n - j) → p ≡ k - (j - n) → q ≡ n + k - j → drop (m + p) d ≡ drop q d
+behind j n m k p q d em ep eq =
+    ⊎-elim (λ h. let e : m + p ≡ q = omega (arith, h, em, ep, eq) in ap (λ (i : ℕ). drop i d) e)
+    (λ h. drop-of-length-le d {i = m + p} (omega (arith, h, em)) ∙ sym (drop-of-length-le d {i = q} (omega (arith, h, eq))))
+    (lt-or-le (n - j) (length d))
+
 module _ (j n m : ℕ) (a b d xs : List ℕ) (long : length a ≡ n) (some : m ≡ min (length d) (n - j)) (is : xs ≡ take m (drop (min j n) a)) where
   first-in : m ≤ length d
   first-in = omega arith
@@ -98,17 +106,25 @@ module _ (j n m : ℕ) (a b d xs : List ℕ) (long : length a ≡ n) (some : m �
   first-long : length xs ≡ m
   first-long = ap length is ∙ length-take-le m (drop (min j n) a) (rw (length-drop (min j n) a) (rw long (omega arith)))
 
-  -- the second is lent no more than b has left
-  pub second-in : (i k : ℕ) → i ≡ j - n → j + length d ≤ n + k → i + length (take (length (xs ++ drop m d) - m) (drop m (xs ++ drop m d))) ≤ k
-  second-in i k e h = rw (second-long d xs m first-in first-long) (omega arith)
+  -- what the second is lent
+  second-is : take (length (xs ++ drop m d) - m) (drop m (xs ++ drop m d)) ≡ drop m d
+  second-is = rest-of m (xs ++ drop m d) ∙ drop-at xs (drop m d) m first-long
 
-  pub laid-by-two : (i : ℕ) (ys : List ℕ) → i ≡ j - n → ys ≡ take (length (take (length (xs ++ drop m d) - m) (drop m (xs ++ drop m d)))) (drop i b)
-      → putMid m (length (xs ++ drop m d) - m) (xs ++ drop m d) ys ≡ take (length d) (drop j (a ++ b))
+  pub laid-by-two : (i : ℕ) (ys : List ℕ) → i ≡ j - n → ys ≡ laidOn (drop i b) (take (length (xs ++ drop m d) - m) (drop m (xs ++ drop m d)))
+      → putMid m (length (xs ++ drop m d) - m) (xs ++ drop m d) ys ≡ laidOn (drop j (a ++ b)) d
+  unfolding laidOn
   laid-by-two i ys h e =
+      let front = take (min (length d) (n - j)) (drop (min j n) a) in
+      let more : length (drop m d) ≡ length d - min (length d) (n - j) = length-drop m d ∙ ap (λ (k : ℕ). length d - k) some in
+      let words : take (length (drop m d)) (drop i b) ≡ take (length d - min (length d) (n - j)) (drop (j - n) b) = ap₂ (λ (x y : ℕ). take x (drop y b)) more h in
+      let tail : drop (length (drop i b)) (drop m d) ≡ drop (length (drop j (a ++ b))) d =
+      drop-drop (length (drop i b)) m d ∙ behind j n m (length b) (length (drop i b)) (length (drop j (a ++ b))) d some (length-drop i b ∙ ap (λ (x : ℕ). length b - x) h)
+      (length-drop j (a ++ b) ∙ ap (λ (x : ℕ). x - j) (length-append a b ∙ ap (λ (x : ℕ). x + length b) long)) in
       both-back d xs m first-in first-long ys
       ∙ ap₂ _++_ (is ∙ ap (λ (i : ℕ). take i (drop (min j n) a)) some)
-      (e ∙ ap₂ (λ (i y : ℕ). take i (drop y b)) (second-long d xs m first-in first-long ∙ ap (λ (i : ℕ). length d - i) some) h)
-      ∙ sym (cut j (length d) n a b long)
+      (e ∙ ap (λ (l : List ℕ). take (length l) (drop i b) ++ drop (length (drop i b)) l) second-is ∙ ap₂ _++_ words tail)
+      ∙ sym (append-assoc front _ _)
+      ∙ ap (λ (l : List ℕ). l ++ drop (length (drop j (a ++ b))) d) (sym (cut j (length d) n a b long))
 
 -- ---- six words written one by one
 pub six-set : (d : List ℕ) (a b c e f g : ℕ) → length d ≡ 6 → set (set (set (set (set (set d 0 a) 1 b) 2 c) 3 e) 4 f) 5 g ≡ a ∷ b ∷ c ∷ e ∷ f ∷ g ∷ []

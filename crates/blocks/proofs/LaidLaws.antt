@@ -1,10 +1,11 @@
 -- Laws of words laid into a part: where they fill it, and where not.
 -- Assumes nothing.
 use mathlib.Core.Path.{_≡_, refl, sym, ap, _∙_}
-use mathlib.Core.List.{List, [], _∷_}
+use mathlib.Core.List.{List, [], _∷_, _++_, append-nil}
 use Prim.Native.Nat.{ℕ, _+_, _-_, _≤_, _<_}
 use native.Mathlib.Omega.{arith}
-use lib.ListN.{length, take, drop, set}
+use lib.ListN.{length, take, drop, set, length-drop, drop-of-length-le}
+use lib.Seq.{take-all}
 use borrow.Rule.Slice.PartMut.{putMid}
 use borrow.Author.Tests.{eq-eqb, ne-eqb}
 use Rattle.lists.specs.Tests.{pick}
@@ -12,8 +13,8 @@ use Rattle.lists.proofs.Tests.{pick-true, pick-false}
 use Rattle.lists.proofs.Parts.{both-back, behind}
 use Rattle.words.specs.Crc.{crcOf}
 use Rattle.blocks.specs.Block.{blockWords}
-use Rattle.blocks.specs.Laid.{laidIn, crcIn}
-use Rattle.blocks.proofs.Lengths.{part-fills}
+use Rattle.blocks.specs.Laid.{laidIn, laidOn, crcIn}
+use Rattle.blocks.proofs.Lengths.{block-long}
 
 module _ (ws out : List ℕ) where
   pub laid-all : length ws ≡ length out → laidIn ws out ≡ ws
@@ -43,11 +44,30 @@ module _ (ws out : List ℕ) where
   pub unfilled : (c : ℕ) → (length ws ≡ length out → ⊥) → (out ≡ laidIn ws out) × (c ≡ crcIn c ws out)
   unfilled c e = (sym (laid-none e), sym (crc-none c e))
 
--- a part of a variable block, as a caller finds it
-pub part-laid : (mode kind j c r : ℕ) (vs out ys : List ℕ) → j + length out ≤ length vs + 7
-    → (ys ≡ laidIn (take (length out) (drop j (blockWords mode kind vs))) out) × (r ≡ crcIn c (take (length out) (drop j (blockWords mode kind vs))) out)
-    → (ys ≡ take (length out) (drop j (blockWords mode kind vs))) × (r ≡ crcOf c ys)
-part-laid mode kind j c r vs out ys h k = fills _ out c r ys (part-fills mode kind j (length out) vs h) k
+-- ---- words laid from the part's beginning on
+-- a part of a variable block that is all filled
+pub part-laid : (mode kind j : ℕ) (vs out : List ℕ) → j + length out ≤ length vs + 7
+    → laidOn (drop j (blockWords mode kind vs)) out ≡ take (length out) (drop j (blockWords mode kind vs))
+unfolding laidOn
+part-laid mode kind j vs out h =
+    let ws = drop j (blockWords mode kind vs) in
+    let long : length out ≤ length ws = rw (length-drop j (blockWords mode kind vs)) (rw (block-long mode kind vs) (omega (arith, h))) in
+    ap (λ (l : List ℕ). take (length out) ws ++ l) (drop-of-length-le out {i = length ws} long) ∙ append-nil (take (length out) ws)
+
+-- no word, and one
+pub none-on : (out : List ℕ) → out ≡ laidOn [] out
+unfolding laidOn
+none-on out = sym (ap (λ (l : List ℕ). l ++ out) (take-all (length out) [] (omega arith)))
+
+pub one-on : (out : List ℕ) (w : ℕ) → (length out ≡ 0 → ⊥) → set out 0 w ≡ laidOn (w ∷ []) out
+unfolding laidOn
+one-on [] w h = absurd (h refl)
+one-on (x ∷ out) w h = ap (λ (l : List ℕ). w ∷ (l ++ out)) (sym (take-all (length out) [] (omega arith)))
+
+pub on-none : (ws out : List ℕ) → length out ≡ 0 → out ≡ laidOn ws out
+unfolding laidOn
+on-none ws [] h = sym (drop-of-length-le [] {i = length ws} (omega arith))
+on-none ws (x ∷ out) h = absurd (omega (arith, h))
 
 -- ---- one word written, and others behind it
 pub first-long : (d : List ℕ) (w n : ℕ) → length d ≡ n + 1 → length (take (length (set d 0 w) - 1) (drop 1 (set d 0 w))) ≡ n

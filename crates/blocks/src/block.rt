@@ -6,11 +6,12 @@ ghost use mathlib.Core.Path.{_≡_};
 ghost use mathlib.Core.List.{[], _∷_, _++_, map};
 ghost use Prim.Native.Nat.{_+_, _/_, _%_, _≤_};
 ghost use lib.ListN.{length, take, drop};
+ghost use Rattle.words.specs.Crc.{crcOf};
 ghost use Rattle.words.specs.Forms.{byteWord};
 ghost use Rattle.words.specs.Modes.{wordOf};
 ghost use Rattle.words.specs.Class.{separator, endCode};
 ghost use Rattle.blocks.specs.Block.{countWords, blockWords, fixedWords};
-ghost use Rattle.blocks.specs.Laid.{laidIn, crcIn};
+ghost use Rattle.blocks.specs.Laid.{laidIn, laidOn, crcIn};
 
 // A byte of a count, in byte form.
 fn count_word(n: usize, by: usize) -> u16
@@ -43,41 +44,45 @@ fn lay_head(kind: u16, n: usize, j: usize, out: &mut [u16])
     fill::copy_from(&[words::class::SEPARATOR, word, b0, b1, b2, b3], j, out);
 }
 
+// The word after the values, where it is still to lay and has room.
+fn put_end(j: usize, out: &mut [u16])
+    ensures { λ _. ⌜ now (out .exit) ≡ laidOn (drop j (endCode ∷ [])) (now (out .entry)) ⌝ }
+{
+    if 0 < j {
+        return;
+    }
+    if out.len() == 0 {
+        return;
+    }
+    out[0] = words::class::END_CODE;
+}
+
 // The values and the word after them, from word j.
 fn lay_rest(mode: u8, values: &[u16], j: usize, out: &mut [u16])
-    requires { ⌜ j + length (now out) ≤ length (now values) + 1 ⌝ }
-    ensures { λ _. ⌜ now (out .exit) ≡ take (length (now (out .entry))) (drop j (map (wordOf mode) (now (values .entry)) ++ (endCode ∷ []))) ⌝ }
+    ensures { λ _. ⌜ now (out .exit) ≡ laidOn (drop j (map (wordOf mode) (now (values .entry)) ++ (endCode ∷ []))) (now (out .entry)) ⌝ }
 {
     let n = values.len();
     let a = lists::smaller_of(out.len(), lists::minus_or_zero(n, j));
     let b = lists::smaller_of(j, n);
     let e = b + a;
     fill::put_values(mode, &values[b..e], &mut out[..a]);
-    let i = lists::minus_or_zero(j, n);
-    fill::copy_from(&[words::class::END_CODE], i, &mut out[a..]);
+    put_end(lists::minus_or_zero(j, n), &mut out[a..]);
 }
 
-// A variable block's words from word j, as many as there is room for.
+// A variable block's words from word j, as many as there are and have room; the rest of the part stays.
 fn lay_words(mode: u8, kind: u16, values: &[u16], j: usize, out: &mut [u16])
-    requires { ⌜ j + length (now out) ≤ length (now values) + 7 ⌝ }
-    ensures { λ _. ⌜ now (out .exit) ≡ take (length (now (out .entry))) (drop j (blockWords mode kind (now (values .entry)))) ⌝ }
+    ensures { λ _. ⌜ now (out .exit) ≡ laidOn (drop j (blockWords mode kind (now (values .entry)))) (now (out .entry)) ⌝ }
 {
     let a = lists::smaller_of(out.len(), lists::minus_or_zero(6, j));
     lay_head(kind, values.len(), lists::smaller_of(j, 6), &mut out[..a]);
     lay_rest(mode, values, lists::minus_or_zero(j, 6), &mut out[a..]);
 }
 
-// The same, and the CRC taken on over them. A part that is longer than what is left of the block is left as it was.
+// The same, and the CRC taken on over the part. No length is tested: all lengths are clamped anyway, and a test more is seen in blocks of a few words.
 pub fn lay_on(mode: u8, kind: u16, values: &[u16], j: usize, c: u32, out: &mut [u16]) -> u32
-    ensures { λ r. ⌜ (now (out .exit) ≡ laidIn (take (length (now (out .entry))) (drop j (blockWords mode kind (now (values .entry))))) (now (out .entry)))
-        × (r ≡ crcIn c (take (length (now (out .entry))) (drop j (blockWords mode kind (now (values .entry))))) (now (out .entry))) ⌝ }
+    ensures { λ r. ⌜ (now (out .exit) ≡ laidOn (drop j (blockWords mode kind (now (values .entry)))) (now (out .entry))) × (r ≡ crcOf c (now (out .exit))) ⌝ }
 {
-    let all = values.len() + 7;
-    let from = lists::smaller_of(j, all);
-    if all - from < out.len() {
-        return c;
-    }
-    lay_words(mode, kind, values, from, out);
+    lay_words(mode, kind, values, j, out);
     crc::crc_of(c, out)
 }
 

@@ -1,3 +1,3 @@
-// The words of a block, laid into a lent part. It knows no line, no place and no state; a part that the words don't fill is left as it was.
+// The words of a block, laid into a lent part. It knows no line, no place and no state.
 pub mod block; // block.rt: the words of a block, from any of them on
 pub mod fill; // fill.rt: lent parts filled with words

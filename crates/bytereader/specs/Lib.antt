@@ -1,1 +1,2 @@
 pub mod Bytewise
+pub mod Calls

@@ -4,14 +4,15 @@ use bytewalks::walk;
 use course::Place;
 use line::fixed;
 use line::systems;
+use machine::phase::Phase;
+use machine::step::Met;
 use machine::walk::Walked;
 use reader::read;
 use reader::read::Asked;
 use reader::state;
+use reader::state::Event;
 use reader::state::Reader;
-use reader::state::Told;
-use reader::within;
-use reader::within::Within;
+use reader::within::Report;
 ghost use mathlib.Core.Path.{_≡_};
 ghost use mathlib.Core.Bool.{_&&_};
 ghost use Prim.Native.Nat.{_+_, _/_, _%_, _≤_};
@@ -25,9 +26,18 @@ ghost use Rattle.course.specs.Course.{blocksEnd};
 ghost use Rattle.course.specs.declared.Place.the-variants.{At};
 ghost use Rattle.machine.specs.Walk.{leaves};
 ghost use Rattle.reader.specs.State.{capacity};
-ghost use Rattle.reader.specs.Reading.{reply, walkFrom, goesFrom, readFault};
+ghost use Rattle.reader.specs.Reading.{readFault};
 ghost use Rattle.reader.specs.Asking.{barred, asked};
+ghost use Rattle.bytereader.specs.Calls.{eventBy, placeBy, wentOf};
 ghost use Rattle.reader.specs.Within.{sliced, unitOf, walkTo, walkWithin, goesWithin};
+
+// What a call on a begun line changes: what it reports and how much it consumed, the place and the phase.
+pub struct Went {
+    pub report: Report,
+    pub consumed: usize,
+    pub place: Place,
+    pub phase: Phase,
+}
 
 // What a call asks before it reads, by the numbers of bytes: 1 also where one is odd.
 pub(crate) fn ask(st: Reader, line: usize, room: usize) -> Asked
@@ -61,25 +71,6 @@ fn walk_from(st: Reader, end: usize, size: u16, q: usize, line: &[u8], room: &mu
     places::walk_fixed(st.mode, phase, size as usize, &line[i..e], room)
 }
 
-// Goes on from place q.
-pub(crate) fn read_on(
-    st: Reader,
-    end: usize,
-    size: u16,
-    q: usize,
-    line: &[u8],
-    room: &mut [u8],
-) -> Told
-    requires { ⌜ (st .place ≡ At q) × (readFault st (length (wordsOf (now line))) (length (wordsOf (now room))) ≡ 0)
-        × (end ≡ blocksEnd (systemOf (st .system) .payload) (st .settings .block) (st .settings .flag)) × (size ≡ sizeOf (st .settings .block)) ⌝ }
-    ensures { λ r. ⌜ reply r (wordsOf (now (room .exit))) ≡ goesFrom st q (walkFrom st q (wordsOf (now (line .entry))) (wordsOf (now (room .entry)))) ⌝ }
-{
-    let x = walk_from(st, end, size, q, line, room);
-    let phase = x.phase;
-    let met = x.met;
-    read::tell(st, q + x.taken, phase, met)
-}
-
 // The words that count as one.
 fn unit_of(block: u8, size: u16) -> usize
     requires { ⌜ size ≡ sizeOf block ⌝ }
@@ -91,7 +82,32 @@ fn unit_of(block: u8, size: u16) -> usize
     size as usize
 }
 
-// Goes on from place q, as far as the allowance lets.
+// What a call on a begun line tells of what was met.
+fn event_by(met: Met) -> Event
+    ensures { λ r. ⌜ r ≡ eventBy met ⌝ }
+{
+    match met {
+        Met::Nothing => Event::End,
+        Met::Whole { kind, length } => Event::Block {
+            kind: kind,
+            length: length,
+        },
+        Met::Lost { reason } => Event::Drop { reason: reason },
+    }
+}
+
+// The place afterwards, q unless the line has ended.
+fn place_by(met: Met, q: usize) -> Place
+    ensures { λ r. ⌜ r ≡ placeBy met q ⌝ }
+{
+    match met {
+        Met::Nothing => Place::Shut,
+        Met::Whole { kind: _, length: _ } => Place::At(q),
+        Met::Lost { reason: _ } => Place::At(q),
+    }
+}
+
+// Goes on from place q, as far as the allowance lets. Only what changes is given back: a state is long, and most calls move few words.
 pub(crate) fn go_on(
     st: Reader,
     allowance: usize,
@@ -100,13 +116,12 @@ pub(crate) fn go_on(
     q: usize,
     line: &[u8],
     room: &mut [u8],
-) -> Within
+) -> Went
     requires { ⌜ (st .place ≡ At q) × (readFault st (length (wordsOf (now line))) (length (wordsOf (now room))) ≡ 0)
         × (end ≡ blocksEnd (systemOf (st .system) .payload) (st .settings .block) (st .settings .flag)) × (size ≡ sizeOf (st .settings .block)) ⌝ }
-    ensures { λ r. ⌜ sliced r (wordsOf (now (room .exit)))
+    ensures { λ r. ⌜ sliced (wentOf st r) (wordsOf (now (room .exit)))
         ≡ goesWithin allowance st q (walkWithin allowance st q (wordsOf (now (line .entry))) (wordsOf (now (room .entry)))) ⌝ }
 {
-    let last = st.last;
     let t = st.settings;
     let unit = unit_of(t.block, size);
     let far = q + lists::smaller_of(allowance, (end - q) / unit) * unit;
@@ -116,10 +131,19 @@ pub(crate) fn go_on(
     let next = q + x.taken;
     let consumed = x.taken / unit;
     if machine::walk::is_nothing(met) & (consumed == allowance) {
-        return within::paused(
-            consumed,
-            state::becomes(st, last, t, Place::At(next), phase),
-        );
+        return Went {
+            report: Report::Paused,
+            consumed: consumed,
+            place: Place::At(next),
+            phase: phase,
+        };
     }
-    within::tells(consumed, read::tell(st, next, phase, met))
+    let event = event_by(met);
+    let place = place_by(met, next);
+    Went {
+        report: Report::Told(event),
+        consumed: consumed,
+        place: place,
+        phase: phase,
+    }
 }

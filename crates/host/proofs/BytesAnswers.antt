@@ -10,16 +10,16 @@ use Rattle.octets.specs.Bytes.{wordsOf, isEven}
 use Rattle.octets.proofs.BytesLaws.{length-words}
 use Rattle.line.specs.declared.settings.Settings.{Settings}
 use Rattle.reader.specs.declared.state.Reader.{Reader}
-use Rattle.reader.specs.Reading.{Reply, readFault, reading}
+use Rattle.reader.specs.Reading.{readFault}
 use Rattle.reader.specs.Within.{Sliced, within}
 use Rattle.writer.specs.declared.state.Writer.{Writer}
 use Rattle.writer.specs.Answers.{Left, Added}
 use Rattle.writer.specs.Batch.{Batched, batchFault}
-use Rattle.bytereader.specs.Bytewise.{readBytes, withinBytes}
+use Rattle.bytereader.specs.Bytewise.{withinBytes, bytesFault}
 use Rattle.bytewriter.specs.Bytewise.{openBytes, addBytes, manyBytes, packBytes, closeBytes}
-use Rattle.host.specs.Answers.{eventAnswer, reportAnswer, doneAnswer, laidAnswer, stopAnswer}
-use Rattle.host.specs.Early.{readEarly, writeEarly}
-use Rattle.host.proofs.AnswerLaws.{AnswersBy, read-answers, within-answers, open-answers, add-answers, many-answers, pack-answers, close-answers}
+use Rattle.host.specs.Answers.{reportAnswer, doneAnswer, laidAnswer, stopAnswer}
+use Rattle.host.specs.Early.{writeEarly}
+use Rattle.host.proofs.AnswerLaws.{AnswersBy, within-answers, open-answers, add-answers, many-answers, pack-answers, close-answers}
 
 -- what is told of an odd buffer, y, answers 1
 by-bytes : {X : Type 0} (answer : X → ℕ) (even : Bool) (f : ℕ) (x y : X) → answer y ≡ 1 → AnswersBy f (answer x) → AnswersBy (pick even f 1) (answer (pick even x y))
@@ -35,12 +35,8 @@ module _ (st : Reader) (line room : List ℕ) where
       subst (λ (k : ℕ). AnswersBy (readFault st k (length room / 2)) n) (length-words line)
       (subst (λ (k : ℕ). AnswersBy (readFault st (length (wordsOf line)) k) n) (length-words room) a)
 
-  pub read-bytes-answers : AnswersBy (readEarly st (length line) (length room)) (eventAnswer (readBytes st line room .told .event))
-  unfolding readEarly readBytes
-  read-bytes-answers = by-bytes (λ (x : Reply). eventAnswer (x .told .event)) (isEven line && isEven room) _ _ _ refl (read-long _ (read-answers st (wordsOf line) (wordsOf room)))
-
-  pub within-bytes-answers : (a : ℕ) → AnswersBy (readEarly st (length line) (length room)) (reportAnswer (withinBytes a st line room .answer .report))
-  unfolding readEarly withinBytes
+  pub within-bytes-answers : (a : ℕ) → AnswersBy (bytesFault st (length line) (length room)) (reportAnswer (withinBytes a st line room .answer .report))
+  unfolding bytesFault withinBytes
   within-bytes-answers a =
       by-bytes (λ (x : Sliced). reportAnswer (x .answer .report)) (isEven line && isEven room) _ _ _ refl (read-long _ (within-answers a st (wordsOf line) (wordsOf room)))
 

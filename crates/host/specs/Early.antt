@@ -4,14 +4,8 @@ use Prim.Native.Nat.{ℕ, _/_, _%_}
 use mathlib.Core.Bool.{Bool, _&&_}
 use lib.Dec.{eqb}
 use Rattle.lists.specs.Tests.{pick}
-use Rattle.reader.specs.declared.state.Reader.{Reader}
-use Rattle.reader.specs.Reading.{readFault}
 use Rattle.writer.specs.declared.state.Writer.{Writer}
 use Rattle.writer.specs.Batch.{batchFault}
-
--- of a reading call: a line and a room of so many bytes; 1 also where one is odd
-unfoldable pub readEarly : Reader → ℕ → ℕ → ℕ
-readEarly st line room = pick (eqb (line % 2) 0 && eqb (room % 2) 0) (readFault st (line / 2) (room / 2)) 1
 
 -- of the writer's calls, which all have the same 1 and 2: a line of so many bytes, and whether what else is lent is even
 unfoldable pub writeEarly : Writer → ℕ → Bool → ℕ

@@ -1,4 +1,4 @@
-// Lent bytes copied to arrays of their length, and back.
+// Lent bytes copied to arrays of their length.
 ghost use mathlib.Core.Path.{_≡_};
 ghost use lib.ListN.{length};
 
@@ -23,7 +23,7 @@ pub(crate) fn settings_in(s: &[u8]) -> [u8; 41]
 }
 
 // The bytes of s, into a part of its length.
-pub(crate) fn copy_bytes(s: &[u8], out: &mut [u8])
+fn copy_bytes(s: &[u8], out: &mut [u8])
     requires { ⌜ length (now out) ≡ length (now s) ⌝ }
     ensures { λ _. ⌜ now (out .exit) ≡ now (s .entry) ⌝ }
 {

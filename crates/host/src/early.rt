@@ -1,15 +1,16 @@
-// 1 and 2 of a call, asked before it: so a call that is made writes what it leaves, and a refused one writes nothing.
+// 1 and 2 of a call, asked before it: of a writer's call, so that a refused one writes nothing; of a reading call only where the bytes are no image.
 use line::check;
 use reader::state as reader_state;
 use reader::state::Reader;
 use writer::state as writer_state;
 use writer::state::Writer;
 ghost use mathlib.Core.Path.{_≡_};
-ghost use Rattle.host.specs.Early.{readEarly, writeEarly, earlyBy};
+ghost use Rattle.bytereader.specs.Bytewise.{bytesFault};
+ghost use Rattle.host.specs.Early.{writeEarly, earlyBy};
 
 // Of a reading call on a line and a room of so many bytes.
 pub(crate) fn read_early(st: Reader, line: usize, room: usize) -> u8
-    ensures { λ r. ⌜ r ≡ readEarly st line room ⌝ }
+    ensures { λ r. ⌜ r ≡ bytesFault st line room ⌝ }
 {
     if !((line % 2 == 0) & (room % 2 == 0)) {
         return 1;

@@ -4,6 +4,6 @@ pub mod making; // making.rt: a reader or a writer made
 pub mod reading; // reading.rt: a line read, with an allowance or none
 pub mod writing; // writing.rt: a line opened, blocks and packets added, the line closed
 pub mod looking; // looking.rt: a line checked, and the packets of its gap listed
-mod early; // early.rt: 1 and 2, asked before a call
+mod early; // early.rt: 1 and 2, asked before a writer's call
 mod answers; // answers.rt: the numbers that the calls answer
-mod buffers; // buffers.rt: lent bytes copied to and from arrays
+mod buffers; // buffers.rt: lent bytes copied to arrays

@@ -1,5 +1,4 @@
 // A line checked, and the packets of its gap listed. No state is asked.
-use crate::buffers;
 use images::fields;
 use line::check::Checked;
 use linecheck::check;
@@ -50,7 +49,7 @@ pub extern "C" fn sdti_check(system: u8, mode: u8, line: &[u8], header: &mut [u8
         return 1;
     }
     let t = c.settings;
-    buffers::copy_bytes(&fields::header_bytes(c.number, t), header);
+    fields::put_header(c.number, t, header);
     c.fault as u32
 }
 
@@ -81,9 +80,6 @@ pub extern "C" fn sdti_list(
         return 1;
     }
     octets::bytes_of(&flat[..m], out);
-    buffers::copy_bytes(
-        &fields::four_numbers(x.packets, x.words, x.gap, x.stop as usize),
-        listed,
-    );
+    fields::put_four(x.packets, x.words, x.gap, x.stop as usize, listed);
     x.fault as u32
 }

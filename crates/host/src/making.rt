@@ -1,5 +1,4 @@
 // A reader or a writer made: its fresh state as an image.
-use crate::buffers;
 use images::reader_image;
 use images::writer_image;
 use reader::state as reader_state;
@@ -14,8 +13,7 @@ pub extern "C" fn sdti_reader(system: u8, mode: u8, state: &mut [u8]) -> u32
     if state.len() != 80 {
         return 1;
     }
-    let image = reader_image::image_of(reader_state::fresh_reader(system, mode));
-    buffers::copy_bytes(&image, state);
+    reader_image::put_image(reader_state::fresh_reader(system, mode), state);
     0
 }
 
@@ -26,7 +24,6 @@ pub extern "C" fn sdti_writer(system: u8, mode: u8, state: &mut [u8]) -> u32
     if state.len() != 80 {
         return 1;
     }
-    let image = writer_image::image_of(writer_state::fresh_writer(system, mode));
-    buffers::copy_bytes(&image, state);
+    writer_image::put_image(writer_state::fresh_writer(system, mode), state);
     0
 }

@@ -22,9 +22,10 @@ pub extern "C" fn sdti_open(
         return 1;
     }
     let image = buffers::image_in(state);
-    let w = writer_image::writer_of(&image);
+    let spelt = writer_image::read_image(&image);
+    let w = spelt.state;
     let fault = early::write_early(w, line.len(), true);
-    let n = early::early_by(writer_image::is_image(&image), fault);
+    let n = early::early_by(spelt.image, fault);
     if n != 0 {
         return n;
     }
@@ -32,7 +33,7 @@ pub extern "C" fn sdti_open(
     let x = bytewriter::opening::open_line(w, f, v, answers::sixteen(number), t, line);
     let answer = x.answer;
     let next = x.state;
-    buffers::copy_bytes(&writer_image::image_of(next), state);
+    writer_image::put_image(next, state);
     answers::done_answer(answer)
 }
 
@@ -44,16 +45,17 @@ pub extern "C" fn sdti_add(state: &mut [u8], kind: u32, values: &[u8], line: &mu
         return 1;
     }
     let image = buffers::image_in(state);
-    let w = writer_image::writer_of(&image);
+    let spelt = writer_image::read_image(&image);
+    let w = spelt.state;
     let fault = early::write_early(w, line.len(), octets::is_even(values));
-    let n = early::early_by(writer_image::is_image(&image), fault);
+    let n = early::early_by(spelt.image, fault);
     if n != 0 {
         return n;
     }
     let x = bytewriter::adding::add_block(w, answers::sixteen(kind), values, line);
     let answer = x.answer;
     let next = x.state;
-    buffers::copy_bytes(&writer_image::image_of(next), state);
+    writer_image::put_image(next, state);
     answers::laid_answer(answer)
 }
 
@@ -70,16 +72,17 @@ pub extern "C" fn sdti_add_many(
         return 1;
     }
     let image = buffers::image_in(state);
-    let w = writer_image::writer_of(&image);
+    let spelt = writer_image::read_image(&image);
+    let w = spelt.state;
     let fault = early::write_early(w, line.len(), octets::is_even(blocks));
-    let n = early::early_by(writer_image::is_image(&image), fault);
+    let n = early::early_by(spelt.image, fault);
     if n != 0 {
         return n;
     }
     let x = bytewriter::batch::add_blocks(w, blocks, line);
     let stop = x.stop;
     let next = x.state;
-    buffers::copy_bytes(&writer_image::image_of(next), state);
+    writer_image::put_image(next, state);
     *finished = x.finished as u64;
     answers::stop_answer(stop)
 }
@@ -98,16 +101,17 @@ pub extern "C" fn sdti_packet(
         return 1;
     }
     let image = buffers::image_in(state);
-    let w = writer_image::writer_of(&image);
+    let spelt = writer_image::read_image(&image);
+    let w = spelt.state;
     let fault = early::write_early(w, line.len(), octets::is_even(values));
-    let n = early::early_by(writer_image::is_image(&image), fault);
+    let n = early::early_by(spelt.image, fault);
     if n != 0 {
         return n;
     }
     let x = bytewriter::packing::add_packet(w, did, second, values, line);
     let answer = x.answer;
     let next = x.state;
-    buffers::copy_bytes(&writer_image::image_of(next), state);
+    writer_image::put_image(next, state);
     answers::done_answer(answer)
 }
 
@@ -119,15 +123,16 @@ pub extern "C" fn sdti_close(state: &mut [u8], line: &mut [u8]) -> u32
         return 1;
     }
     let image = buffers::image_in(state);
-    let w = writer_image::writer_of(&image);
+    let spelt = writer_image::read_image(&image);
+    let w = spelt.state;
     let fault = early::write_early(w, line.len(), true);
-    let n = early::early_by(writer_image::is_image(&image), fault);
+    let n = early::early_by(spelt.image, fault);
     if n != 0 {
         return n;
     }
     let x = bytewriter::closing::close_line(w, line);
     let answer = x.answer;
     let next = x.state;
-    buffers::copy_bytes(&writer_image::image_of(next), state);
+    writer_image::put_image(next, state);
     answers::done_answer(answer)
 }

@@ -2,7 +2,7 @@
 -- Assumes nothing.
 use mathlib.Core.Path.{_≡_, refl, sym, ap, ap₂, _∙_}
 use mathlib.Core.Bool.{Bool, true, false, _&&_}
-use mathlib.Core.List.{List, [], _∷_, _++_}
+use mathlib.Core.List.{List, [], _∷_, _++_, append-assoc}
 use Prim.Native.Nat.{ℕ, zero, suc, _+_, _^_, _<_}
 use native.Mathlib.Omega.{arith}
 use lib.Dec.{ltb}
@@ -173,6 +173,30 @@ event-injective r s c d hr hs hc hd e = (
   sym (report-back r c hr hc) ∙ ap reportFrom e ∙ report-back s d hs hd,
   sym (consumed-back r c hr hc) ∙ ap consumedFrom e ∙ consumed-back s d hs hd,
 )
+
+-- ---- nothing consumed
+no-count : (k d : ℕ) (j : Jump) (n t s c : ℕ) → take 24 (eventFields k d j n t s c) ++ bytesFor 8 0 ≡ eventFields k d j n t s 0
+no-count k d j n t s c =
+    let z = sizeOfJump j in
+    let front = bytesFor 4 n ++ (bytesFor 4 z ++ (bytesFor 4 t ++ bytesFor 8 s)) in
+    let joined : (x : ℕ) → bytesFor 4 n ++ (bytesFor 4 z ++ (bytesFor 4 t ++ (bytesFor 8 s ++ bytesFor 8 x))) ≡ front ++ bytesFor 8 x =
+    λ x.
+    ap (λ (l : List ℕ). bytesFor 4 n ++ (bytesFor 4 z ++ l)) (sym (append-assoc (bytesFor 4 t) (bytesFor 8 s) (bytesFor 8 x)))
+    ∙ ap (λ (l : List ℕ). bytesFor 4 n ++ l) (sym (append-assoc (bytesFor 4 z) (bytesFor 4 t ++ bytesFor 8 s) (bytesFor 8 x)))
+    ∙ sym (append-assoc (bytesFor 4 n) (bytesFor 4 z ++ (bytesFor 4 t ++ bytesFor 8 s)) (bytesFor 8 x))
+    in
+    let long : length front ≡ 20 = simp length-append (omega (arith, length-bytes 4 n, length-bytes 4 z, length-bytes 4 t, length-bytes 8 s)) in
+    ap (λ (l : List ℕ). k ∷ d ∷ isKnown j ∷ isBehind j ∷ (take 20 l ++ bytesFor 8 0)) (joined c)
+    ∙ ap (λ (l : List ℕ). k ∷ d ∷ isKnown j ∷ isBehind j ∷ (l ++ bytesFor 8 0)) (take-at front (bytesFor 8 c) 20 long)
+    ∙ ap (λ (l : List ℕ). k ∷ d ∷ isKnown j ∷ isBehind j ∷ l) (sym (joined 0))
+
+pub uncounted : (r : Report) (c : ℕ) → take 24 (eventImage r c) ++ bytesFor 8 0 ≡ eventImage r 0
+uncounted Paused c = no-count 5 0 Unknown 0 0 0 c
+uncounted (Told (Refused n dropped)) c = no-count 0 (flagByte dropped) Unknown n 0 0 c
+uncounted (Told (Begun n jump dropped)) c = no-count 1 (flagByte dropped) jump n 0 0 c
+uncounted (Told (Block k n)) c = no-count 2 0 Unknown 0 k n c
+uncounted (Told (Drop n)) c = no-count 3 0 Unknown n 0 0 c
+uncounted (Told End) c = no-count 4 0 Unknown 0 0 0 c
 
 -- ---- the first byte is the report's first number
 abbrev pub firstOf : List ℤ → ℤ

@@ -2,7 +2,7 @@
 -- Assumes nothing.
 use mathlib.Core.Path.{_≡_, refl, sym, ap, ap₂, _∙_}
 use mathlib.Core.Bool.{Bool, true}
-use mathlib.Core.List.{List, [], _∷_, _++_}
+use mathlib.Core.List.{List, [], _∷_, _++_, append-assoc}
 use Prim.Native.Nat.{ℕ, zero, suc, _+_, _^_, _<_, _≤_}
 use native.Mathlib.Omega.{arith}
 use lib.ListN.{length, getD, take, drop, length-append}
@@ -170,3 +170,13 @@ frame-held b h l =
       aai-byte = each-at small s 1 (omega arith) bytes;
       settings-of = settings-held s bytes long;
     }
+
+-- ---- the frame laid in three parts: in front of the place; the place and what is held of the block; the settings
+pub frame-join : (tag system mode : ℕ) (l : Last) (p : Place) (kind : ℕ) (held : List ℕ) (t : Settings)
+    → (tag ∷ system ∷ mode ∷ lastBytes l) ++ ((placeByte p ∷ kind ∷ (bytesFor 8 (placeOf p) ++ held)) ++ (settingsBytes t ++ (0 ∷ 0 ∷ []))) ≡ framed tag system mode l p kind held t
+unfolding framed
+frame-join tag system mode l p kind held t =
+    ap (λ (x : List ℕ). tag ∷ system ∷ mode ∷ (lastBytes l ++ (placeByte p ∷ kind ∷ x))) (append-assoc (bytesFor 8 (placeOf p)) held (settingsBytes t ++ (0 ∷ 0 ∷ [])))
+
+pub length-stand : (p : Place) (kind : ℕ) (held : List ℕ) → length held ≡ 21 → length (placeByte p ∷ kind ∷ (bytesFor 8 (placeOf p) ++ held)) ≡ 31
+length-stand p kind held h = simp length-append (omega (arith, length-bytes 8 (placeOf p), h))

@@ -2,11 +2,11 @@
 -- Assumes nothing.
 use mathlib.Core.Path.{_≡_, refl, sym, ap, ap₂, _∙_}
 use mathlib.Core.Bool.{true}
-use mathlib.Core.List.{List, _++_}
+use mathlib.Core.List.{List, [], _∷_, _++_}
 use Prim.Native.Nat.{ℕ, zero, suc, _+_}
 use native.Mathlib.Omega.{arith}
 use lib.ListN.{length, getD, take, drop, length-append}
-use lib.Seq.{take-at, drop-at, take-all}
+use lib.Seq.{take-at, drop-at, drop-drop, take-all}
 use borrow.Author.Tests.{lt-ltb, ltb-true}
 use Rattle.lists.specs.Lists.{each}
 use Rattle.lists.proofs.Tests.{both-true, and-true}
@@ -16,13 +16,15 @@ use Rattle.machine.specs.declared.phase.Mark.{Mark}
 use Rattle.machine.specs.declared.phase.Mark.the-variants.{Typed, Nulled}
 use Rattle.machine.specs.declared.phase.Phase.{Phase}
 use Rattle.machine.specs.declared.phase.Phase.the-variants.{Idle, Kind, First, Second, Third, Fourth, Data}
+use Rattle.course.specs.declared.Place.{Place}
 use Rattle.reader.specs.declared.state.Reader.{Reader}
-use Rattle.images.specs.Fields.{bytesFor, numberFrom}
-use Rattle.images.specs.Frame.{heldIn}
-use Rattle.images.specs.ReaderImage.{readerTag, markBytes, markBy, phaseByte, countBytes, phaseBytes, phaseBy, phaseIn, imageOf, stateOf, isImage}
+use Rattle.reader.specs.Reading.{becomes}
+use Rattle.images.specs.Fields.{bytesFor, numberFrom, settingsBytes}
+use Rattle.images.specs.Frame.{lastBytes, heldIn}
+use Rattle.images.specs.ReaderImage.{readerTag, markBytes, markBy, phaseByte, countBytes, phaseBytes, phaseBy, phaseIn, imageOf, stateOf, isImage, standBytes, moved}
 use Rattle.images.specs.Held.{eight, heldMark, heldPhase, HeldReader}
 use Rattle.images.proofs.NumberLaws.{length-bytes, number-bytes}
-use Rattle.images.proofs.FrameLaws.{FrameBack, frame-back, frame-held, length-framed, part-number}
+use Rattle.images.proofs.FrameLaws.{FrameBack, frame-back, frame-held, length-framed, length-last, length-stand, frame-join, part-number}
 
 -- ---- the phase
 length-mark : (m : Mark) → length (markBytes m) ≡ 2
@@ -35,7 +37,7 @@ length-count a b c n j = simp length-append (omega (arith, length-bytes 8 n, len
 length-marked : (m : Mark) (a b c n j : ℕ) → length (markBytes m ++ countBytes a b c n j) ≡ 21
 length-marked m a b c n j = length-append (markBytes m) (countBytes a b c n j) ∙ ap₂ (λ (x y : ℕ). x + y) (length-mark m) (length-count a b c n j)
 
-length-phase : (p : Phase) → length (phaseBytes p) ≡ 21
+pub length-phase : (p : Phase) → length (phaseBytes p) ≡ 21
 length-phase Idle = ap (λ (n : ℕ). suc (suc n)) (length-count 0 0 0 0 0)
 length-phase Kind = ap (λ (n : ℕ). suc (suc n)) (length-count 0 0 0 0 0)
 length-phase (First m) = length-marked m 0 0 0 0 0
@@ -135,3 +137,26 @@ pub image-length : (st : Reader) → HeldReader st → length (imageOf st) ≡ 8
 unfolding imageOf
 image-length st h =
     length-framed readerTag (st .system) (st .mode) (st .last) (st .place) (phaseByte (st .phase)) (phaseBytes (st .phase)) (st .settings) (length-phase (st .phase)) (h .settings-held)
+
+-- ---- another place and another phase
+-- I5: an image in which only these are others is the image of the state with these
+pub moved-image : (b : List ℕ) → isImage b ≡ true → (p : Place) (h : Phase)
+    → let st = stateOf b in
+    moved p h b ≡ imageOf (becomes st (st .last) (st .settings) p h)
+unfolding moved imageOf
+moved-image b e p h =
+    let st = stateOf b in
+    let front = readerTag ∷ st .system ∷ st .mode ∷ lastBytes (st .last) in
+    let foot = settingsBytes (st .settings) ++ (0 ∷ 0 ∷ []) in
+    let old = standBytes (st .place) (st .phase) in
+    let whole : b ≡ front ++ (old ++ foot) =
+    sym (image-state b e) ∙ sym (frame-join readerTag (st .system) (st .mode) (st .last) (st .place) (phaseByte (st .phase)) (phaseBytes (st .phase)) (st .settings))
+    in
+    let six : length front ≡ 6 = ap (λ (n : ℕ). suc (suc (suc n))) (length-last (st .last)) in
+    let long : length old ≡ 31 = length-stand (st .place) (phaseByte (st .phase)) (phaseBytes (st .phase)) (length-phase (st .phase)) in
+    let in-front : take 6 b ≡ front = ap (take 6) whole ∙ take-at front (old ++ foot) 6 six in
+    let behind : drop 37 b ≡ foot =
+    sym (drop-drop 31 6 b) ∙ ap (λ (l : List ℕ). drop 31 (drop 6 l)) whole ∙ ap (drop 31) (drop-at front (old ++ foot) 6 six) ∙ drop-at old foot 31 long
+    in
+    ap₂ (λ (x y : List ℕ). x ++ (standBytes p h ++ y)) in-front behind
+    ∙ frame-join readerTag (st .system) (st .mode) (st .last) p (phaseByte h) (phaseBytes h) (st .settings)

@@ -1,16 +1,18 @@
 -- Laws of numbers as bytes, of any width: each goes by one byte more. The loops that put and read numbers go by them too.
 -- Assumes nothing.
 use mathlib.Core.Path.{_≡_, refl, sym, ap, ap₂, _∙_}
-use mathlib.Core.Bool.{true}
-use mathlib.Core.List.{List, [], _∷_}
+use mathlib.Core.Bool.{Bool, true, false}
+use mathlib.Core.List.{List, [], _∷_, _++_}
 use Prim.Native.Nat.{ℕ, zero, suc, _+_, _-_, _*_, _/_, _%_, _^_, _<_, _≤_}
 use native.Mathlib.Nat.{pow-suc, pow-le-pow-right, mod-add-div', div-lt-iff-lt-mul}
 use native.Mathlib.Omega.{arith}
-use lib.ListN.{length, getD, drop, set, drop-of-length-le}
-use borrow.Author.Tests.{lt-ltb, ltb-true}
-use Rattle.lists.specs.Lists.{each, part}
-use Rattle.lists.proofs.Lists.{length-part}
-use Rattle.lists.proofs.Tests.{both-true, and-true}
+use lib.Dec.{eqb}
+use lib.ListN.{length, getD, take, drop, set, replicate, drop-of-length-le, length-append, length-drop}
+use lib.Seq.{length-take-le}
+use borrow.Author.Tests.{lt-ltb, ltb-true, eqb-true, eq-eqb}
+use Rattle.lists.specs.Lists.{each, part, same}
+use Rattle.lists.proofs.Lists.{length-part, same-eq, eq-same}
+use Rattle.lists.proofs.Tests.{both-true, and-true, true-false}
 use Rattle.lists.proofs.Loops.{Filling, fill-start, fill-turn, next-drop}
 use Rattle.line.specs.Settings.{small}
 use Rattle.images.specs.Fields.{bytesFor, numberFrom}
@@ -97,18 +99,28 @@ pub record Spelling (b : List ℕ) (x i : ℕ) : Type 0 where
   pub within : i ≤ length b
   pub is : x ≡ numberFrom (drop i b)
   pub less : x < 256 ^ (length b - i)
+  pub back : bytesFor (length b - i) x ≡ drop i b
 
 pub spell-start : (b : List ℕ) → Spelling b 0 (length b)
-unfolding numberFrom
+unfolding numberFrom bytesFor
 spell-start b =
     record {
       within = omega arith;
       is = sym (ap numberFrom (drop-of-length-le b {i = length b} (omega arith)));
       less = none (length b);
+      back = nothing (length b) ∙ sym (drop-of-length-le b {i = length b} (omega arith));
     }
   where
     none : (k : ℕ) → 0 < 256 ^ (k - k)
     none k = let e : k - k ≡ 0 = omega arith in rw e (omega arith)
+
+    nothing : (k : ℕ) → bytesFor (k - k) 0 ≡ []
+    nothing k = let e : k - k ≡ 0 = omega arith in ap (λ (m : ℕ). bytesFor m 0) e
+
+-- the bytes of a number with one byte more
+one-more : (k b x : ℕ) → b < 256 → bytesFor (suc k) (b + x * 256) ≡ b ∷ bytesFor k x
+unfolding bytesFor
+one-more k b x h = ap₂ (λ (y z : ℕ). y ∷ bytesFor k z) (low b x h) (high b x h)
 
 pub spell-turn : (b : List ℕ) (x i : ℕ) → Spelling b x i → 0 < i → getD b (i - 1) 0 < 256 → Spelling b (getD b (i - 1) 0 + x * 256) (i - 1)
 unfolding numberFrom
@@ -121,6 +133,11 @@ spell-turn b x i s h l =
       within = omega arith;
       is = ap (λ (y : ℕ). getD b j 0 + y * 256) (s .is ∙ ap (λ (m : ℕ). numberFrom (drop m b)) (sym back)) ∙ sym (ap numberFrom (next-drop b j inside));
       less = rw more (number-more (length b - i) (getD b j 0) x l (s .less));
+      back =
+          ap (λ (k : ℕ). bytesFor k (getD b j 0 + x * 256)) more
+          ∙ one-more (length b - i) (getD b j 0) x l
+          ∙ ap (λ (t : List ℕ). getD b j 0 ∷ t) (s .back ∙ ap (λ (m : ℕ). drop m b) (sym back))
+          ∙ sym (next-drop b j inside);
     }
 
 -- the number read so far, with one byte more, fits where there are no more than eight bytes
@@ -136,12 +153,40 @@ spell-fits b x i s h e l =
     under : (a b c : ℕ) → a < b → b ≤ c → a < c
     under a b c x y = omega arith
 
-pub spell-end : (b : List ℕ) (x i : ℕ) → Spelling b x i → i ≤ 0 → (x ≡ numberFrom b) × (x < 256 ^ length b)
+pub spell-end : (b : List ℕ) (x i : ℕ) → Spelling b x i → i ≤ 0 → (x ≡ numberFrom b) × (x < 256 ^ length b) × (bytesFor (length b) x ≡ b)
 spell-end b x i s h =
     let first : i ≡ 0 = omega arith in
     let whole : length b - i ≡ length b = omega arith in
-    (s .is ∙ ap (λ (m : ℕ). numberFrom (drop m b)) first, rw whole at (s .less))
+    (s .is ∙ ap (λ (m : ℕ). numberFrom (drop m b)) first, rw whole at (s .less), ap (λ (m : ℕ). bytesFor m x) (sym whole) ∙ s .back ∙ ap (λ (m : ℕ). drop m b) first)
 
 -- a number read from a part of so many bytes
 pub part-less : (b : List ℕ) (a k x : ℕ) → a + k ≤ length b → x < 256 ^ length (part a k b) → x < 256 ^ k
 part-less b a k x h l = rw (length-part a k b h) at l
+
+-- a part that its number spells again is the bytes of that number and of no other
+pub same-number : (k n : ℕ) (p : List ℕ) → bytesFor k (numberFrom p) ≡ p → n < 256 ^ k → eqb (numberFrom p) n ≡ same p (bytesFor k n)
+same-number k n p back less = go (eqb (numberFrom p) n) refl
+  where
+    go : (b : Bool) → eqb (numberFrom p) n ≡ b → eqb (numberFrom p) n ≡ same p (bytesFor k n)
+    go true e = e ∙ sym (eq-same p (bytesFor k n) (sym back ∙ ap (bytesFor k) (eqb-true (numberFrom p) n e)))
+    go false e = e ∙ sym (other (same p (bytesFor k n)) refl)
+      where
+        other : (c : Bool) → same p (bytesFor k n) ≡ c → c ≡ false
+        other false f = refl
+        other true f = absurd (true-false (sym (eq-eqb (numberFrom p) n (ap numberFrom (same-eq p (bytesFor k n) f) ∙ number-bytes k n less)) ∙ e))
+
+-- numbers put into the first part of what is lent, and into the part behind it
+pub first-number : (k n : ℕ) (out x : List ℕ) → k ≤ length out → x ≡ bytesFor (length (take k out)) n → x ≡ bytesFor k n
+first-number k n out x h e = e ∙ ap (λ (m : ℕ). bytesFor m n) (length-take-le k out h)
+
+pub second-number : (n m v : ℕ) (a out x y : List ℕ) → length out ≡ n + m → length a ≡ n → x ≡ a → y ≡ bytesFor (length (part n m (x ++ drop n out))) v → y ≡ bytesFor m v
+second-number n m v a out x y l h e f =
+    let long = length-append x (drop n out) in
+    f ∙ ap (λ (k : ℕ). bytesFor k v) (length-part n m (x ++ drop n out) (omega (arith, long, ap length e, h, l, length-drop n out)))
+
+-- a number of two bytes in ten
+pub wide : (n : ℕ) → n < 2 ^ 16 → bytesFor 10 n ≡ bytesFor 2 n ++ replicate 8 0
+unfolding bytesFor
+wide n h =
+    let none : n / 256 / 256 ≡ 0 = omega arith in
+    ap (λ (m : ℕ). n % 256 ∷ n / 256 % 256 ∷ bytesFor 8 m) none

@@ -2,31 +2,33 @@
 -- No image is both a reader's and a writer's.
 -- Assumes nothing.
 use mathlib.Core.Path.{_≡_, refl, sym, ap, ap₂, _∙_}
-use mathlib.Core.Bool.{true}
+use mathlib.Core.Bool.{Bool, true, _&&_}
 use mathlib.Core.List.{List, _++_}
-use Prim.Native.Nat.{ℕ, zero, suc, _+_}
+use Prim.Native.Nat.{ℕ, zero, suc, _+_, _≤_}
 use native.Mathlib.Omega.{arith}
+use lib.Dec.{eqb}
 use lib.ListN.{length, getD, take, drop, replicate, length-append}
 use lib.Seq.{take-at, drop-at, drop-drop}
 use borrow.Author.Tests.{lt-ltb, ltb-true}
-use Rattle.lists.specs.Lists.{part, each}
+use Rattle.lists.specs.Lists.{part, same, each}
 use Rattle.lists.proofs.Tests.{both-true, and-true}
-use Rattle.lists.proofs.Lists.{same-eq, eq-same, each-at}
+use Rattle.lists.proofs.Lists.{part-part, same-eq, eq-same, each-at}
 use Rattle.line.specs.Settings.{small}
 use Rattle.writer.specs.declared.state.Rest.{Rest}
 use Rattle.writer.specs.declared.state.Rest.the-variants.{NoBlock, Part}
 use Rattle.writer.specs.declared.state.Writer.{Writer}
 use Rattle.images.specs.Fields.{bytesFor, numberFrom}
-use Rattle.images.specs.Frame.{framed, heldIn}
+use Rattle.images.specs.Frame.{framed, lastIn, placeIn, heldIn, showsFrame}
 use Rattle.images.specs.ReaderImage as R
 use Rattle.images.specs.WriterImage.{writerTag, restByte, restBytes, restBy, imageOf, stateOf, isImage}
 use Rattle.images.specs.Held.{two, four, heldRest, HeldWriter}
 use Rattle.images.proofs.NumberLaws.{length-bytes, number-bytes}
 use Rattle.images.proofs.FrameLaws.{frame-back, frame-held, length-framed, part-number}
+use Rattle.images.proofs.ShownLaws.{frame-shown, kept-shown}
 use Rattle.images.proofs.ImageLaws as Reading
 
 -- ---- what is held of the block and the line
-length-rest : (r : Rest) → length (restBytes r) ≡ 7
+pub length-rest : (r : Rest) → length (restBytes r) ≡ 7
 unfolding bytesFor
 length-rest NoBlock = refl
 length-rest (Part k n j) = refl
@@ -34,7 +36,7 @@ length-rest (Part k n j) = refl
 abbrev heldOf : Writer → List ℕ
 heldOf w = restBytes (w .rest) ++ (bytesFor 4 (w .crc) ++ (bytesFor 2 (w .used) ++ replicate 8 0))
 
-length-held : (w : Writer) → length (heldOf w) ≡ 21
+pub length-held : (w : Writer) → length (heldOf w) ≡ 21
 length-held w = simp length-append (omega (arith, length-rest (w .rest), length-bytes 4 (w .crc), length-bytes 2 (w .used)))
 
 rest-back : (r : Rest) (t : List ℕ) → heldRest r ≡ true → restBy (restByte r) (restBytes r ++ t) ≡ r
@@ -113,6 +115,28 @@ bytes-held b h l =
 pub image-length : (w : Writer) → HeldWriter w → length (imageOf w) ≡ 80
 unfolding imageOf
 image-length w h = length-framed writerTag (w .system) (w .mode) (w .last) (w .place) (restByte (w .rest)) (heldOf w) (w .settings) (length-held w) (h .settings-held)
+
+-- the fields that the state gives stand where they were read
+pub image-shown : (b h : List ℕ) → h ≡ heldIn b → length b ≡ 80 → bytesFor 4 (numberFrom (part 7 4 h)) ≡ part 7 4 h → bytesFor 2 (numberFrom (part 11 2 h)) ≡ part 11 2 h
+    → let r = restBy (getD b 7 0) (heldIn b) in
+    (showsFrame writerTag (lastIn b) (placeIn b) b && (eqb (getD b 7 0) (restByte r) && (same (part 16 7 b) (restBytes r) && same (part 29 8 b) (bytesFor 8 0)))) ≡ isImage b
+unfolding isImage imageOf stateOf heldIn
+image-shown b h e long crc used =
+    let r = restBy (getD b 7 0) (heldIn b) in
+    let held = heldOf (stateOf b) in
+    let crc-is : part 7 4 (heldIn b) ≡ part 23 4 b = in-held 7 4 (omega arith) in
+    let used-is : part 11 2 (heldIn b) ≡ part 27 2 b = in-held 11 2 (omega arith) in
+    let crc-at : bytesFor 4 (numberFrom (part 23 4 b)) ≡ part 23 4 b = rw (ap (part 7 4) e ∙ crc-is) at crc in
+    let used-at : bytesFor 2 (numberFrom (part 27 2 b)) ≡ part 27 2 b = rw (ap (part 11 2) e ∙ used-is) at used in
+    let kept = kept-shown b (restBytes r) long (length-rest r) crc-at used-at in
+    let same-held : same (heldIn b) (restBytes r ++ (bytesFor 4 (numberFrom (part 23 4 b)) ++ (bytesFor 2 (numberFrom (part 27 2 b)) ++ replicate 8 0))) ≡ same (heldIn b) held =
+    ap₂ (λ (p q : List ℕ). same (heldIn b) (restBytes r ++ (bytesFor 4 (numberFrom p) ++ (bytesFor 2 (numberFrom q) ++ replicate 8 0)))) (sym crc-is) (sym used-is)
+    in
+    ap (λ (x : Bool). showsFrame writerTag (lastIn b) (placeIn b) b && (eqb (getD b 7 0) (restByte r) && x)) (kept ∙ same-held)
+    ∙ frame-shown writerTag (lastIn b) (placeIn b) (restByte r) held b long (length-held (stateOf b))
+  where
+    in-held : (a k : ℕ) → a + k ≤ 21 → part a k (heldIn b) ≡ part (16 + a) k b
+    in-held a k h = part-part 16 21 a k b h
 
 -- ---- the tag
 pub reader-tag : (b : List ℕ) → R.isImage b ≡ true → getD b 0 0 ≡ 0x52

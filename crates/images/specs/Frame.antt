@@ -3,10 +3,11 @@
 -- 8-15 the place; 16-36 what is held of the block; 37-77 the settings; 78-79 nothing.
 -- Assumes nothing.
 use Prim.Native.Nat.{ℕ, zero, suc}
-use mathlib.Core.Bool.{Bool}
+use mathlib.Core.Bool.{Bool, _&&_}
 use mathlib.Core.List.{List, [], _∷_, _++_}
+use lib.Dec.{eqb}
 use lib.ListN.{getD}
-use Rattle.lists.specs.Lists.{part}
+use Rattle.lists.specs.Lists.{part, same}
 use Rattle.line.specs.declared.settings.Settings.{Settings}
 use Rattle.course.specs.declared.Last.{Last}
 use Rattle.course.specs.declared.Last.the-variants.{Unknown, Number}
@@ -50,3 +51,10 @@ placeIn b = placeBy (getD b 6 0) (numberFrom (part 8 8 b))
 
 unfoldable pub heldIn : List ℕ → List ℕ
 heldIn b = part 16 21 b
+
+-- ---- what is asked of 80 bytes: only the promises of private functions cite this
+-- the bytes of a frame stand there, but for where a block stands, what is held of it and the settings
+unfoldable pub showsFrame : ℕ → Last → Place → List ℕ → Bool
+showsFrame tag last place b =
+    (eqb (getD b 0 0) tag && same (part 3 3 b) (lastBytes last))
+    && ((eqb (getD b 6 0) (placeByte place) && same (part 8 8 b) (bytesFor 8 (placeOf place))) && (eqb (getD b 78 0) 0 && eqb (getD b 79 0) 0))

@@ -5,15 +5,17 @@ use Prim.Native.Nat.{ℕ, zero, suc, _<_, _^_}
 use mathlib.Core.Path.{_≡_}
 use mathlib.Core.Bool.{Bool}
 use mathlib.Core.List.{List, [], _∷_, _++_}
-use lib.ListN.{getD, replicate}
+use lib.ListN.{getD, replicate, take, drop}
 use Rattle.lists.specs.Lists.{part, same}
+use Rattle.course.specs.declared.Place.{Place}
+use Rattle.course.specs.Course.{placeOf}
 use Rattle.machine.specs.declared.phase.Mark.{Mark}
 use Rattle.machine.specs.declared.phase.Mark.the-variants.{Typed, Nulled}
 use Rattle.machine.specs.declared.phase.Phase.{Phase}
 use Rattle.machine.specs.declared.phase.Phase.the-variants.{Idle, Kind, First, Second, Third, Fourth, Data}
 use Rattle.reader.specs.declared.state.Reader.{Reader}
 use Rattle.images.specs.Fields.{bytesFor, numberFrom, settingsFrom}
-use Rattle.images.specs.Frame.{framed, lastIn, placeIn, heldIn}
+use Rattle.images.specs.Frame.{placeByte, framed, lastIn, placeIn, heldIn}
 
 abbrev pub readerTag : ℕ
 readerTag = 0x52
@@ -82,3 +84,10 @@ stateOf b =
 -- an image is what a state gives: the state that it spells gives it again
 unfoldable pub isImage : List ℕ → Bool
 isImage b = same b (imageOf (stateOf b))
+
+-- ---- an image in which only the place and the phase are others: bytes 6 to 36
+abbrev pub standBytes : Place → Phase → List ℕ
+standBytes place phase = placeByte place ∷ phaseByte phase ∷ bytesFor 8 (placeOf place) ++ phaseBytes phase
+
+unfoldable pub moved : Place → Phase → List ℕ → List ℕ
+moved place phase b = take 6 b ++ (standBytes place phase ++ drop 37 b)

@@ -6,7 +6,10 @@ use reader::state::Event;
 use reader::within::Report;
 ghost use mathlib.Core.Path.{_≡_};
 ghost use lib.IntN.{natAbs};
-ghost use mathlib.Core.List.{_∷_, _++_, []};
+ghost use mathlib.Core.List.{_∷_};
+ghost use lib.Dec.{eqb};
+ghost use lib.ListN.{length};
+ghost use Rattle.lists.specs.Tests.{pick};
 ghost use Rattle.images.specs.Fields.{bytesFor};
 ghost use Rattle.images.specs.EventImage.{flagByte, isKnown, isBehind, sizeOfJump, eventFields, eventImage};
 
@@ -67,50 +70,43 @@ fn is_behind(jump: Jump) -> u8
     }
 }
 
-// The first half: kind, dropped, the jump, the number and the type.
-fn front(kind: u8, dropped: u8, jump: Jump, number: u16, block: u8) -> [u8; 16]
-    ensures { λ r. ⌜ r ≡ kind ∷ dropped ∷ isKnown jump ∷ isBehind jump ∷ bytesFor 4 number ++ (bytesFor 4 (sizeOfJump jump) ++ bytesFor 4 block) ⌝ }
+// The kind, whether an open block was dropped, what is known of the jump, and the number.
+fn put_kind(kind: u8, dropped: u8, jump: Jump, number: u16, out: &mut [u8])
+    requires { ⌜ length (now out) ≡ 8 ⌝ }
+    ensures { λ _. ⌜ now (out .exit) ≡ kind ∷ dropped ∷ isKnown jump ∷ isBehind jump ∷ bytesFor 4 number ⌝ }
 {
-    let first = [kind, dropped, is_known(jump), is_behind(jump)];
-    let mut of = [0u8; 4];
-    fields::put_number(number as usize, &mut of);
-    let mut far = [0u8; 4];
-    fields::put_number(size_of_jump(jump), &mut far);
-    let mut held = [0u8; 4];
-    fields::put_number(block as usize, &mut held);
-    let mut out = [0u8; 16];
-    joins::join_four(&first, &of, &far, &held, &mut out);
-    out
+    let known = is_known(jump);
+    let behind = is_behind(jump);
+    joins::copy_bytes(&[kind, dropped, known, behind], &mut out[..4]);
+    fields::put_number(number as usize, &mut out[4..8]);
 }
 
 // An image by its fields.
-fn event_fields(
+fn put_fields(
     kind: u8,
     dropped: u8,
     jump: Jump,
     number: u16,
     block: u8,
-    length: usize,
+    long: usize,
     consumed: usize,
-) -> [u8; 32]
-    ensures { λ r. ⌜ r ≡ eventFields kind dropped jump number block length consumed ⌝ }
+    out: &mut [u8],
+)
+    requires { ⌜ length (now out) ≡ 32 ⌝ }
+    ensures { λ _. ⌜ now (out .exit) ≡ eventFields kind dropped jump number block long consumed ⌝ }
 {
-    let first = front(kind, dropped, jump, number, block);
-    let mut long = [0u8; 8];
-    fields::put_number(length, &mut long);
-    let mut used = [0u8; 8];
-    fields::put_number(consumed, &mut used);
-    let mut out = [0u8; 32];
-    joins::join_three(&first, &long, &used, &mut out);
-    out
+    put_kind(kind, dropped, jump, number, &mut out[..8]);
+    fields::put_fours(size_of_jump(jump), block as usize, &mut out[8..16]);
+    fields::put_eights(long, consumed, &mut out[16..32]);
 }
 
 // The image of an event.
-fn told_image(event: Event, consumed: usize) -> [u8; 32]
-    ensures { λ r. ⌜ r ≡ eventImage (Report.Told event) consumed ⌝ }
+fn put_told(event: Event, consumed: usize, out: &mut [u8])
+    requires { ⌜ length (now out) ≡ 32 ⌝ }
+    ensures { λ _. ⌜ now (out .exit) ≡ eventImage (Report.Told event) consumed ⌝ }
 {
     match event {
-        Event::Refused { answer, dropped } => event_fields(
+        Event::Refused { answer, dropped } => put_fields(
             0,
             flag_byte(dropped),
             Jump::Unknown,
@@ -118,13 +114,14 @@ fn told_image(event: Event, consumed: usize) -> [u8; 32]
             0,
             0,
             consumed,
+            out,
         ),
         Event::Begun {
             number,
             jump,
             dropped,
-        } => event_fields(1, flag_byte(dropped), jump, number, 0, 0, consumed),
-        Event::Block { kind, length } => event_fields(
+        } => put_fields(1, flag_byte(dropped), jump, number, 0, 0, consumed, out),
+        Event::Block { kind, length } => put_fields(
             2,
             0,
             Jump::Unknown,
@@ -132,18 +129,31 @@ fn told_image(event: Event, consumed: usize) -> [u8; 32]
             kind,
             length,
             consumed,
+            out,
         ),
-        Event::Drop { reason } => event_fields(3, 0, Jump::Unknown, reason as u16, 0, 0, consumed),
-        Event::End => event_fields(4, 0, Jump::Unknown, 0, 0, 0, consumed),
+        Event::Drop { reason } => put_fields(
+            3,
+            0,
+            Jump::Unknown,
+            reason as u16,
+            0,
+            0,
+            consumed,
+            out,
+        ),
+        Event::End => put_fields(4, 0, Jump::Unknown, 0, 0, 0, consumed, out),
     }
 }
 
-// The image of a report.
-pub fn event_image(report: Report, consumed: usize) -> [u8; 32]
-    ensures { λ r. ⌜ r ≡ eventImage report consumed ⌝ }
+// The image of a report, into 32 bytes, and else nothing.
+pub fn put_event(report: Report, consumed: usize, out: &mut [u8])
+    ensures { λ _. ⌜ now (out .exit) ≡ pick (eqb (length (now (out .entry))) 32) (eventImage report consumed) (now (out .entry)) ⌝ }
 {
+    if out.len() != 32 {
+        return;
+    }
     match report {
-        Report::Paused => event_fields(5, 0, Jump::Unknown, 0, 0, 0, consumed),
-        Report::Told(event) => told_image(event, consumed),
+        Report::Paused => put_fields(5, 0, Jump::Unknown, 0, 0, 0, consumed, out),
+        Report::Told(event) => put_told(event, consumed, out),
     }
 }

@@ -5,7 +5,9 @@ use line::settings::Settings;
 ghost use mathlib.Core.Path.{_≡_};
 ghost use mathlib.Core.List.{_++_};
 ghost use Prim.Native.Nat.{_≤_, _<_, _^_};
+ghost use lib.Dec.{eqb};
 ghost use lib.ListN.{length};
+ghost use Rattle.lists.specs.Tests.{pick};
 ghost use Rattle.images.specs.Fields.{bytesFor, numberFrom, settingsBytes, settingsFrom};
 
 // The low bytes of a number, as many as there is room for.
@@ -24,7 +26,7 @@ pub fn put_number(n: usize, out: &mut [u8])
 // The number that bytes spell: from the last, which counts most, to the first. It fits because there are no more than eight.
 pub(crate) fn number_from(b: &[u8]) -> usize
     requires { ⌜ length (now b) ≤ 8 ⌝ }
-    ensures { λ r. ⌜ (r ≡ numberFrom (now (b .entry))) × (r < 256 ^ length (now (b .entry))) ⌝ }
+    ensures { λ r. ⌜ (r ≡ numberFrom (now (b .entry))) × (r < 256 ^ length (now (b .entry))) × (bytesFor (length (now (b .entry))) r ≡ now (b .entry)) ⌝ }
 {
     let mut x: usize = 0;
     let mut i = b.len();
@@ -35,9 +37,28 @@ pub(crate) fn number_from(b: &[u8]) -> usize
     x
 }
 
+// Two numbers of four bytes each. Where the parts end is written out, so that the compiler knows how long they are.
+pub(crate) fn put_fours(a: usize, b: usize, out: &mut [u8])
+    requires { ⌜ length (now out) ≡ 8 ⌝ }
+    ensures { λ _. ⌜ now (out .exit) ≡ bytesFor 4 a ++ bytesFor 4 b ⌝ }
+{
+    put_number(a, &mut out[..4]);
+    put_number(b, &mut out[4..8]);
+}
+
+// Two numbers of eight bytes each.
+pub(crate) fn put_eights(a: usize, b: usize, out: &mut [u8])
+    requires { ⌜ length (now out) ≡ 16 ⌝ }
+    ensures { λ _. ⌜ now (out .exit) ≡ bytesFor 8 a ++ bytesFor 8 b ⌝ }
+{
+    put_number(a, &mut out[..8]);
+    put_number(b, &mut out[8..16]);
+}
+
 // Code, AAI, destination, source, block type, flag, reserved.
-pub fn settings_bytes(t: Settings) -> [u8; 41]
-    ensures { λ r. ⌜ r ≡ settingsBytes t ⌝ }
+pub(crate) fn put_settings(t: Settings, out: &mut [u8])
+    requires { ⌜ length (now out) ≡ 41 ⌝ }
+    ensures { λ _. ⌜ now (out .exit) ≡ settingsBytes t ⌝ }
 {
     let s = settings::held(t);
     let destination = s.destination;
@@ -52,38 +73,30 @@ pub fn settings_bytes(t: Settings) -> [u8; 41]
         reserved[3],
         reserved[4],
     ];
-    let mut out = [0u8; 41];
-    joins::join_four(&[s.code, s.aai], &destination, &source, &back, &mut out);
-    out
+    joins::join_four(&[s.code, s.aai], &destination, &source, &back, out);
 }
 
-// A line number and settings, as they stand in a header.
-pub fn header_bytes(number: u16, t: Settings) -> [u8; 43]
-    ensures { λ r. ⌜ r ≡ bytesFor 2 number ++ settingsBytes t ⌝ }
+// A line number and settings, as they stand in a header: into 43 bytes, and else nothing.
+pub fn put_header(number: u16, t: Settings, out: &mut [u8])
+    ensures { λ _. ⌜ now (out .exit) ≡ pick (eqb (length (now (out .entry))) 43) (bytesFor 2 number ++ settingsBytes t) (now (out .entry)) ⌝ }
 {
-    let mut first = [0u8; 2];
-    put_number(number as usize, &mut first);
-    let settings = settings_bytes(t);
-    let mut out = [0u8; 43];
-    joins::join_two(&first, &settings, &mut out);
-    out
+    if out.len() != 43 {
+        return;
+    }
+    put_number(number as usize, &mut out[..2]);
+    put_settings(t, &mut out[2..43]);
 }
 
-// Four numbers, four bytes each.
-pub fn four_numbers(a: usize, b: usize, c: usize, d: usize) -> [u8; 16]
-    ensures { λ r. ⌜ r ≡ bytesFor 4 a ++ (bytesFor 4 b ++ (bytesFor 4 c ++ bytesFor 4 d)) ⌝ }
+// Four numbers of four bytes each: into 16 bytes, and else nothing.
+pub fn put_four(a: usize, b: usize, c: usize, d: usize, out: &mut [u8])
+    ensures { λ _. ⌜ now (out .exit)
+        ≡ pick (eqb (length (now (out .entry))) 16) (bytesFor 4 a ++ (bytesFor 4 b ++ (bytesFor 4 c ++ bytesFor 4 d))) (now (out .entry)) ⌝ }
 {
-    let mut first = [0u8; 4];
-    put_number(a, &mut first);
-    let mut second = [0u8; 4];
-    put_number(b, &mut second);
-    let mut third = [0u8; 4];
-    put_number(c, &mut third);
-    let mut fourth = [0u8; 4];
-    put_number(d, &mut fourth);
-    let mut out = [0u8; 16];
-    joins::join_four(&first, &second, &third, &fourth, &mut out);
-    out
+    if out.len() != 16 {
+        return;
+    }
+    put_fours(a, b, &mut out[..8]);
+    put_fours(c, d, &mut out[8..16]);
 }
 
 // The settings that 41 bytes spell.

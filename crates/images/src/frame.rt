@@ -5,11 +5,14 @@ use course::Last;
 use course::Place;
 use line::settings::Settings;
 ghost use mathlib.Core.Path.{_≡_};
-ghost use mathlib.Core.List.{_∷_, _++_};
+ghost use mathlib.Core.Bool.{_&&_};
+ghost use mathlib.Core.List.{[], _∷_, _++_};
+ghost use lib.Dec.{eqb};
+ghost use lib.ListN.{length, getD};
 ghost use Rattle.lists.specs.Lists.{part, same};
 ghost use Rattle.course.specs.Course.{placeOf};
-ghost use Rattle.images.specs.Fields.{bytesFor, settingsFrom};
-ghost use Rattle.images.specs.Frame.{lastBytes, placeByte, framed, lastIn, placeIn, heldIn};
+ghost use Rattle.images.specs.Fields.{bytesFor, settingsBytes, settingsFrom};
+ghost use Rattle.images.specs.Frame.{lastBytes, placeByte, lastIn, placeIn, heldIn, showsFrame};
 
 // Whether a last number is there, and the number.
 fn last_bytes(last: Last) -> [u8; 3]
@@ -31,38 +34,58 @@ fn place_byte(place: Place) -> u8
     }
 }
 
-// The bytes in front of what is held of the block.
-fn head_bytes(tag: u8, system: u8, mode: u8, last: Last, place: Place, kind: u8) -> [u8; 16]
-    ensures { λ r. ⌜ r ≡ tag ∷ system ∷ mode ∷ lastBytes last ++ (placeByte place ∷ kind ∷ bytesFor 8 (placeOf place)) ⌝ }
+// The tag, system, mode and the last number.
+pub(crate) fn put_front(tag: u8, system: u8, mode: u8, last: Last, out: &mut [u8])
+    requires { ⌜ length (now out) ≡ 6 ⌝ }
+    ensures { λ _. ⌜ now (out .exit) ≡ tag ∷ system ∷ mode ∷ lastBytes last ⌝ }
 {
     let n = last_bytes(last);
-    let begun = place_byte(place);
-    let first = [tag, system, mode, n[0], n[1], n[2], begun, kind];
-    let mut at = [0u8; 8];
-    fields::put_number(course::place_of(place), &mut at);
-    let mut out = [0u8; 16];
-    joins::join_two(&first, &at, &mut out);
-    out
+    joins::copy_bytes(&[tag, system, mode, n[0], n[1], n[2]], out);
 }
 
-// An image: the head, what is held of the block, the settings, and two bytes that are not used.
-pub(crate) fn framed(
-    tag: u8,
-    system: u8,
-    mode: u8,
-    last: Last,
-    place: Place,
-    kind: u8,
-    held: &[u8; 21],
-    t: Settings,
-) -> [u8; 80]
-    ensures { λ r. ⌜ r ≡ framed tag system mode last place kind (now (held .entry)) t ⌝ }
+// Whether a line is begun, where a block stands, and the place.
+pub(crate) fn put_place(place: Place, kind: u8, out: &mut [u8])
+    requires { ⌜ length (now out) ≡ 10 ⌝ }
+    ensures { λ _. ⌜ now (out .exit) ≡ placeByte place ∷ kind ∷ bytesFor 8 (placeOf place) ⌝ }
 {
-    let head = head_bytes(tag, system, mode, last, place, kind);
-    let settings = fields::settings_bytes(t);
-    let mut out = [0u8; 80];
-    joins::join_four(&head, held, &settings, &[0u8, 0], &mut out);
-    out
+    let begun = place_byte(place);
+    joins::copy_bytes(&[begun, kind], &mut out[..2]);
+    fields::put_number(course::place_of(place), &mut out[2..10]);
+}
+
+// The settings, and two bytes that are not used.
+pub(crate) fn put_foot(t: Settings, out: &mut [u8])
+    requires { ⌜ length (now out) ≡ 43 ⌝ }
+    ensures { λ _. ⌜ now (out .exit) ≡ settingsBytes t ++ (0 ∷ 0 ∷ []) ⌝ }
+{
+    fields::put_settings(t, &mut out[..41]);
+    joins::copy_bytes(&[0u8, 0], &mut out[41..43]);
+}
+
+// The bytes of a last number stand in an image.
+fn shows_last(last: Last, b: &[u8; 80]) -> bool
+    requires { ⌜ length (now b) ≡ 80 ⌝ }
+    ensures { λ r. ⌜ r ≡ same (part 3 3 (now (b .entry))) (lastBytes last) ⌝ }
+{
+    let n = last_bytes(last);
+    (b[3] == n[0]) & ((b[4] == n[1]) & (b[5] == n[2]))
+}
+
+// Those of a place.
+fn shows_place(place: Place, b: &[u8; 80]) -> bool
+    ensures { λ r. ⌜ r ≡ (eqb (getD (now (b .entry)) 6 0) (placeByte place) && same (part 8 8 (now (b .entry))) (bytesFor 8 (placeOf place))) ⌝ }
+{
+    let all = &b[..];
+    (b[6] == place_byte(place)) & (fields::number_from(&all[8..16]) == course::place_of(place))
+}
+
+// The bytes of a frame stand in an image, but for where a block stands, what is held of it and the settings: any 41 bytes are settings.
+pub(crate) fn shows_frame(tag: u8, last: Last, place: Place, b: &[u8; 80]) -> bool
+    requires { ⌜ length (now b) ≡ 80 ⌝ }
+    ensures { λ r. ⌜ r ≡ showsFrame tag last place (now (b .entry)) ⌝ }
+{
+    let in_front = (b[0] == tag) & shows_last(last, b);
+    in_front & (shows_place(place, b) & ((b[78] == 0) & (b[79] == 0)))
 }
 
 // The last number in an image.
@@ -97,28 +120,12 @@ pub(crate) fn held_in(b: &[u8; 80]) -> [u8; 21]
     held
 }
 
-// The settings in an image.
+// The settings in an image. That an image has 80 bytes is told here, because a contract does not see it in the type.
 pub(crate) fn settings_in(b: &[u8; 80]) -> Settings
-    ensures { λ r. ⌜ r ≡ settingsFrom (part 37 41 (now (b .entry))) ⌝ }
+    ensures { λ r. ⌜ (r ≡ settingsFrom (part 37 41 (now (b .entry)))) × (length (now (b .entry)) ≡ 80) ⌝ }
 {
     let all = &b[..];
     let mut bytes = [0u8; 41];
     joins::copy_bytes(&all[37..78], &mut bytes);
     fields::settings_of(&bytes)
-}
-
-// The two are equal. Every byte is looked at, so that the loop has no early exit.
-pub(crate) fn same_bytes(s: &[u8], t: &[u8]) -> bool
-    ensures { λ r. ⌜ r ≡ same (now (s .entry)) (now (t .entry)) ⌝ }
-{
-    if s.len() != t.len() {
-        return false;
-    }
-    let mut ok = true;
-    let mut i = 0;
-    while i < s.len() {
-        ok = ok & (s[i] == t[i]);
-        i += 1;
-    }
-    ok
 }

@@ -2,13 +2,19 @@
 use crate::fields;
 use crate::frame;
 use crate::joins;
+use course::Place;
 use machine::phase::Mark;
 use machine::phase::Phase;
 use reader::state::Reader;
 ghost use mathlib.Core.Path.{_≡_};
+ghost use mathlib.Core.Bool.{_&&_};
 ghost use mathlib.Core.List.{_++_};
-ghost use lib.ListN.{length};
-ghost use Rattle.images.specs.ReaderImage.{markBytes, markBy, phaseByte, countBytes, phaseBytes, phaseBy, phaseIn, imageOf, stateOf, isImage};
+ghost use lib.Dec.{eqb};
+ghost use lib.ListN.{length, getD};
+ghost use Rattle.lists.specs.Lists.{same};
+ghost use Rattle.lists.specs.Tests.{pick};
+ghost use Rattle.images.specs.Frame.{heldIn};
+ghost use Rattle.images.specs.ReaderImage.{markBytes, markBy, phaseByte, countBytes, phaseBytes, phaseBy, phaseIn, imageOf, stateOf, isImage, standBytes, moved};
 ghost use Rattle.images.specs.Held.{HeldReader};
 
 // Whose image it is: R.
@@ -104,19 +110,49 @@ fn counted_of(phase: Phase) -> Counts
 }
 
 // The 21 bytes of what the phase holds.
-fn phase_bytes(phase: Phase) -> [u8; 21]
-    ensures { λ r. ⌜ r ≡ phaseBytes phase ⌝ }
+fn put_phase(phase: Phase, out: &mut [u8])
+    requires { ⌜ length (now out) ≡ 21 ⌝ }
+    ensures { λ _. ⌜ now (out .exit) ≡ phaseBytes phase ⌝ }
 {
     let x = counted_of(phase);
     let mark = x.mark;
-    let first = [mark[0], mark[1], x.b0, x.b1, x.b2];
-    let mut announced = [0u8; 8];
-    fields::put_number(x.announced, &mut announced);
-    let mut collected = [0u8; 8];
-    fields::put_number(x.collected, &mut collected);
-    let mut out = [0u8; 21];
-    joins::join_three(&first, &announced, &collected, &mut out);
-    out
+    joins::copy_bytes(&[mark[0], mark[1], x.b0, x.b1, x.b2], &mut out[..5]);
+    fields::put_eights(x.announced, x.collected, &mut out[5..21]);
+}
+
+// What a call on a begun line changes: the place and the phase.
+fn put_stand(place: Place, phase: Phase, out: &mut [u8])
+    requires { ⌜ length (now out) ≡ 31 ⌝ }
+    ensures { λ _. ⌜ now (out .exit) ≡ standBytes place phase ⌝ }
+{
+    frame::put_place(place, phase_byte(phase), &mut out[..10]);
+    put_phase(phase, &mut out[10..31]);
+}
+
+// The image of a state, into 80 bytes, and else nothing.
+pub fn put_image(st: Reader, out: &mut [u8])
+    ensures { λ _. ⌜ now (out .exit) ≡ pick (eqb (length (now (out .entry))) 80) (imageOf st) (now (out .entry)) ⌝ }
+{
+    if out.len() != 80 {
+        return;
+    }
+    let last = st.last;
+    let place = st.place;
+    let phase = st.phase;
+    let settings = st.settings;
+    frame::put_front(TAG, st.system, st.mode, last, &mut out[..6]);
+    put_stand(place, phase, &mut out[6..37]);
+    frame::put_foot(settings, &mut out[37..80]);
+}
+
+// Another place and another phase, into an image of 80 bytes, and else nothing.
+pub fn put_moved(place: Place, phase: Phase, out: &mut [u8])
+    ensures { λ _. ⌜ now (out .exit) ≡ pick (eqb (length (now (out .entry))) 80) (moved place phase (now (out .entry))) (now (out .entry)) ⌝ }
+{
+    if out.len() != 80 {
+        return;
+    }
+    put_stand(place, phase, &mut out[6..37]);
 }
 
 // The phase by its number, its mark and the bytes held.
@@ -169,52 +205,47 @@ fn phase_in(b: &[u8; 80]) -> Phase
     phase_by(b[7], mark, &held)
 }
 
-// The image of a state.
-pub fn image_of(st: Reader) -> [u8; 80]
-    ensures { λ r. ⌜ r ≡ imageOf st ⌝ }
-{
-    let last = st.last;
-    let place = st.place;
-    let phase = st.phase;
-    let settings = st.settings;
-    let held = phase_bytes(phase);
-    frame::framed(
-        TAG,
-        st.system,
-        st.mode,
-        last,
-        place,
-        phase_byte(phase),
-        &held,
-        settings,
-    )
+// What 80 bytes spell: a state, and whether the bytes are its image.
+pub struct Spelt {
+    pub state: Reader,
+    pub image: bool,
 }
 
-// The state that bytes spell, whatever they are.
-pub fn reader_of(b: &[u8; 80]) -> Reader
-    ensures { λ r. ⌜ r ≡ stateOf (now (b .entry)) ⌝ }
+// The bytes of a phase stand in an image.
+fn shows_phase(phase: Phase, b: &[u8; 80]) -> bool
+    requires { ⌜ length (now b) ≡ 80 ⌝ }
+    ensures { λ r. ⌜ r ≡ (eqb (getD (now (b .entry)) 7 0) (phaseByte phase) && same (heldIn (now (b .entry))) (phaseBytes phase)) ⌝ }
+{
+    let x = counted_of(phase);
+    let mark = x.mark;
+    let all = &b[..];
+    let announced = fields::number_from(&all[21..29]) == x.announced;
+    let collected = fields::number_from(&all[29..37]) == x.collected;
+    let counts = (b[18] == x.b0) & ((b[19] == x.b1) & ((b[20] == x.b2) & (announced & collected)));
+    (b[7] == phase_byte(phase)) & ((b[16] == mark[0]) & ((b[17] == mark[1]) & counts))
+}
+
+// The state that bytes spell, whatever they are; and an image is what a state gives: the state that it spells gives it again.
+pub fn read_image(b: &[u8; 80]) -> Spelt
+    ensures { λ r. ⌜ (r .state ≡ stateOf (now (b .entry))) × (r .image ≡ isImage (now (b .entry))) ⌝ }
 {
     let last = frame::last_in(b);
     let settings = frame::settings_in(b);
     let place = frame::place_in(b);
     let phase = phase_in(b);
-    Reader {
+    let image = frame::shows_frame(TAG, last, place, b) & shows_phase(phase, b);
+    let st = Reader {
         system: b[1],
         mode: b[2],
         last: last,
         settings: settings,
         place: place,
         phase: phase,
+    };
+    Spelt {
+        state: st,
+        image: image,
     }
-}
-
-// An image is what a state gives: the state that it spells gives it again.
-pub fn is_image(b: &[u8; 80]) -> bool
-    ensures { λ r. ⌜ r ≡ isImage (now (b .entry)) ⌝ }
-{
-    let again = image_of(reader_of(b));
-    let given = &b[..];
-    frame::same_bytes(given, &again)
 }
 
 // The same state. What it ensures is what every value of the type holds.

@@ -1,6 +1,5 @@
 // What a run is, whatever it is a run of: the words at which it ends, how many words of it a phase takes at once, and what was taken. The walks over words
 // and over bytes share it.
-use crate::phase::Mark;
 use crate::phase::Phase;
 use words::class;
 ghost use mathlib.Core.Path.{_≡_};

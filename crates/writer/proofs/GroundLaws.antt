@@ -11,7 +11,7 @@ use borrow.Rule.Slice.PartMut.{putMid}
 use Rattle.lists.specs.Tests.{when, lowestOf}
 use Rattle.lists.proofs.Refusals.{LowestOf, low-miss, lowest-append, lowest-clear, found-first}
 use Rattle.words.specs.Crc.{crcOf}
-use Rattle.blocks.specs.Laid.{laidIn, crcIn}
+use Rattle.blocks.specs.Laid.{laidIn, laidOn, crcIn}
 use Rattle.blocks.proofs.LaidLaws.{fills, part-laid}
 use Rattle.line.specs.Fixed.{isVariable, sizeOf}
 use Rattle.line.proofs.SystemLaws.{length-most}
@@ -171,11 +171,11 @@ place-step {g} {h} line kind vs clear v p hp ys c e hc s is w k =
 
 -- ---- the words that fill the part of a line that is lent to be filled
 pub part-filled : (line : List ℕ) (a k mode kind j c r : ℕ) (vs ys : List ℕ) → j < length vs + 7 → k ≤ length vs + 7 - j
-    → let out = take (a + k - a) (drop a line) in let ws = take (length out) (drop j (blockWords mode kind vs)) in
-    (ys ≡ laidIn ws out) × (r ≡ crcIn c ws out) → (ys ≡ ws) × (r ≡ crcOf c ys)
+    → let out = take (a + k - a) (drop a line) in let ws = drop j (blockWords mode kind vs) in
+    (ys ≡ laidOn ws out) × (r ≡ crcOf c ys) → (ys ≡ take (length out) ws) × (r ≡ crcOf c ys)
 part-filled line a k mode kind j c r vs ys some few laid =
     let most = part-most line a k in
-    part-laid mode kind j c r vs (take (a + k - a) (drop a line)) ys (omega (arith, some, few, most)) laid
+    (laid .0 ∙ part-laid mode kind j vs (take (a + k - a) (drop a line)) (omega (arith, some, few, most)), laid .1)
 
 pub place-filled : (line : List ℕ) (a mode kind c r : ℕ) (vs ys : List ℕ) → a + (length vs + 1) ≤ length line
     → let out = take (a + (length vs + 1) - a) (drop a line) in

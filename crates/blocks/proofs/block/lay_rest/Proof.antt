@@ -6,7 +6,7 @@ use Prim.Native.Nat.{ℕ, _-_, min}
 use lib.ListN.{length, take, drop, length-map}
 use Rattle.words.specs.Modes.{wordOf}
 use Rattle.words.specs.Class.{endCode}
-use Rattle.blocks.proofs.FillLaws.{part-map, front-long, part-long, second-in, laid-by-two}
+use Rattle.blocks.proofs.FillLaws.{part-map, front-long, part-long, laid-by-two}
 use borrow.Author.Needs.{needs}
 use Rattle.blocks.proofs.block.lay_rest.Statement.{statement}
 use Rattle.blocks.proofs.block.lay_rest.Tie as tie
@@ -29,21 +29,9 @@ put-values-requires c κs =
     part-long (a .j) (q .smaller-of2 .result) (m .smaller-of .result) (a .out .now) (a .values .now)
     (some m) (q .smaller-of2 .ensures)
 
-copy-from-requires : tie.Need-copy-from-requires
-copy-from-requires c κs =
-    let p = c .before .before .before .before .before in
-    let q = p .before .before .before in
-    let m = q .before in
-    let a = m .before .before .before .before .args in
-    let f = wordOf (a .mode) in
-    let v = a .values .now in
-    let k = m .smaller-of .result in
-    let is = p .put-values .ensures ∙ part-map f (q .smaller-of2 .result) k v ∙ ap (λ (i : ℕ). take k (drop i (map f v))) (q .smaller-of2 .ensures) in
-    second-in (a .j) (length v) k (map f v) (endCode ∷ []) (a .out .now) _ (length-map v f) (some m) is _ _ (c .before .before .minus-or-zero2 .ensures) (m .before .before .before .before .pre)
-
 returns : tie.Need-returns
 returns c =
-    let p = c .before .before .before .before .before .before .before .before in
+    let p = c .before .before .before .before .before .before .before in
     let q = p .before .before .before in
     let m = q .before in
     let a = m .before .before .before .before .args in
@@ -51,7 +39,7 @@ returns c =
     let v = a .values .now in
     let k = m .smaller-of .result in
     let is = p .put-values .ensures ∙ part-map f (q .smaller-of2 .result) k v ∙ ap (λ (i : ℕ). take k (drop i (map f v))) (q .smaller-of2 .ensures) in
-    laid-by-two (a .j) (length v) k (map f v) (endCode ∷ []) (a .out .now) _ (length-map v f) (some m) is _ _ (c .before .before .before .before .before .minus-or-zero2 .ensures) (c .before .before .copy-from .ensures)
+    laid-by-two (a .j) (length v) k (map f v) (endCode ∷ []) (a .out .now) _ (length-map v f) (some m) is _ _ (c .before .before .before .before .minus-or-zero2 .ensures) (c .before .before .put-end .ensures)
 
 pub lay-rest-spec : {M : Type 1} → statement M
 lay-rest-spec =
@@ -61,7 +49,7 @@ lay-rest-spec =
     (need tie.Need-mul-put-values (λ c. search needs)) (need tie.Need-sub-put-values (λ c. search needs))
     (need tie.Need-part-put-values-start (λ c. search needs)) (need tie.Need-part-put-values-end (λ c. search needs))
     (need tie.Need-slice-relend-prefix-put-values (λ c. search needs)) slice-aggregate-put-values put-values-requires
-    (need tie.Need-minus-or-zero-requires-2 (λ c κs. search needs)) (need tie.Need-slice-aggregate-copy-from (λ c. search needs))
-    (need tie.Need-mul-copy-from (λ c. search needs)) (need tie.Need-sub-copy-from (λ c. search needs))
-    (need tie.Need-part-copy-from-start (λ c. search needs)) (need tie.Need-part-copy-from-end (λ c. search needs)) copy-from-requires
+    (need tie.Need-minus-or-zero-requires-2 (λ c κs. search needs)) (need tie.Need-mul-put-end (λ c. search needs))
+    (need tie.Need-sub-put-end (λ c. search needs)) (need tie.Need-part-put-end-start (λ c. search needs))
+    (need tie.Need-part-put-end-end (λ c. search needs)) (need tie.Need-put-end-requires (λ c κs. search needs))
     (need tie.Need-same-length (λ c. search needs)) returns)

@@ -9,7 +9,7 @@ use Rattle.words.specs.Forms.{byteWord}
 use Rattle.words.specs.Modes.{wordOf}
 use Rattle.words.specs.Class.{separator, endCode}
 use Rattle.blocks.specs.Block.{countWords, blockWords}
-use Rattle.blocks.proofs.FillLaws.{front-long, front-in, front-is, second-in, laid-by-two}
+use Rattle.blocks.proofs.FillLaws.{front-long, front-in, front-is, laid-by-two}
 use borrow.Author.Needs.{needs}
 use Rattle.blocks.proofs.block.lay_words.Statement.{statement}
 use Rattle.blocks.proofs.block.lay_words.Tie as tie
@@ -41,19 +41,6 @@ lay-head-requires c κs =
     let a = m .before .before .before .before .args in
     front-in (a .j) 6 (q .smaller-of2 .result) (m .smaller-of .result) (a .out .now) (some m) (q .smaller-of2 .ensures)
 
-lay-rest-requires : tie.Need-lay-rest-requires
-lay-rest-requires c κs =
-    let p = c .before .before .before .before in
-    let q = p .before .before in
-    let m = q .before in
-    let s = m .before .before .before .before in
-    let a = s .args in
-    let v = a .values .now in
-    let k = m .smaller-of .result in
-    let is = front-is (a .j) 6 _ k (head (a .kind) v) (a .out .now) _ (some m) (q .smaller-of2 .ensures) (p .lay-head .ensures) in
-    let all : a .j + length (a .out .now) ≤ 6 + (length v + 1) = omega (arith, s .pre) in
-    second-in (a .j) 6 k (head (a .kind) v) (rest (a .mode) v) (a .out .now) _ (head-six (a .kind) v) (some m) is _ _ (c .before .minus-or-zero2 .ensures) all
-
 returns : tie.Need-returns
 unfolding blockWords countWords
 returns c =
@@ -74,5 +61,5 @@ lay-words-spec =
     (need tie.Need-smaller-of-requires-2 (λ c κs. search needs)) (need tie.Need-slice-relend-prefix-lay-head (λ c. search needs))
     slice-aggregate-lay-head lay-head-requires (need tie.Need-minus-or-zero-requires-2 (λ c κs. search needs))
     (need tie.Need-mul-lay-rest (λ c. search needs)) (need tie.Need-sub-lay-rest (λ c. search needs))
-    (need tie.Need-part-lay-rest-start (λ c. search needs)) (need tie.Need-part-lay-rest-end (λ c. search needs)) lay-rest-requires
+    (need tie.Need-part-lay-rest-start (λ c. search needs)) (need tie.Need-part-lay-rest-end (λ c. search needs)) (need tie.Need-lay-rest-requires (λ c κs. search needs))
     (need tie.Need-same-length (λ c. search needs)) returns)

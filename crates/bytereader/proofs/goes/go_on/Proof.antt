@@ -9,15 +9,14 @@ use Rattle.octets.specs.Bytes.{wordsOf}
 use Rattle.line.specs.Systems.{systemOf}
 use Rattle.machine.specs.Walk.{Walk, leaves, isNothing}
 use Rattle.reader.specs.declared.within.Within.{Within}
-use Rattle.reader.specs.declared.state.Reader.{Reader}
-use Rattle.reader.specs.declared.state.Told.{Told}
 use Rattle.reader.specs.State.{capacity}
-use Rattle.reader.specs.Within.{sliced, pausedAt, tells, unitOf, walkWithin, goesWithin}
+use Rattle.reader.specs.Within.{sliced, unitOf, walkWithin, goesWithin}
 use Rattle.reader.proofs.Ready.{ReadyIn, ready, in-end}
 use Rattle.reader.proofs.ReadLaws.{end-small, next-small}
 use Rattle.reader.proofs.AtCapacity.{enough}
 use Rattle.reader.proofs.Cutting.{Cuts, cuts, Far, far-walk}
 use Rattle.reader.proofs.WithinLaws.{goes-paused, goes-told}
+use Rattle.bytereader.proofs.CallLaws.{went-told}
 use borrow.Author.Needs.{needs}
 use Rattle.bytereader.proofs.goes.go_on.Statement.{statement}
 use Rattle.bytereader.proofs.goes.go_on.Tie as tie
@@ -103,14 +102,11 @@ asked x b e = ap (λ (f : Bool). f && eqb (x .before .before .before .before .be
 
 returns : tie.Need-returns
 returns c =
-    let x = c .before .before .before .before .before .before .before .before in
-    let g = c .before .before .before .before .before .before .before .before .before .before .before .before .before .before .before .args in
-    let room′ = wordsOf (x .walk-from .last .1 .1 .1 .1 .1 .0) in
-    let w = leaves (x .walk-from .result) room′ in
-    let u = c .before .before .before .before .before .before .before .before .before .before .before .unit-of .ensures in
-    let n = x .walk-from .result .taken / c .before .before .before .before .before .before .before .before .before .before .before .unit-of .result in
-    ap (λ (y : Within). sliced y room′) (c .paused .ensures ∙ ap (λ (y : Reader). pausedAt n y) (c .before .becomes .ensures))
-    ∙ goes-paused (g .allowance) (g .st) (g .q) w n (ap (λ (k : ℕ). x .walk-from .result .taken / k) u) (asked (c .before .before .before) true (c .before .before .if1 .taken))
+    let x = c .before .before .before .before .before .before in
+    let g = c .before .before .before .before .before .before .before .before .before .before .before .before .before .args in
+    let w = leaves (x .walk-from .result) (wordsOf (x .walk-from .last .1 .1 .1 .1 .1 .0)) in
+    let u = c .before .before .before .before .before .before .before .before .before .unit-of .ensures in
+    goes-paused (g .allowance) (g .st) (g .q) w _ (ap (λ (k : ℕ). x .walk-from .result .taken / k) u) (asked (c .before) true (c .if1 .taken))
     ∙ ap (goesWithin (g .allowance) (g .st) (g .q)) (walked x)
 
 returns-2 : tie.Need-returns-2
@@ -120,15 +116,14 @@ returns-2 c =
     let room′ = wordsOf (x .walk-from .last .1 .1 .1 .1 .1 .0) in
     let w = leaves (x .walk-from .result) room′ in
     let u = c .before .before .before .before .before .before .before .before .before .before .before .unit-of .ensures in
-    let n = x .walk-from .result .taken / c .before .before .before .before .before .before .before .before .before .before .before .unit-of .result in
-    ap (λ (y : Within). sliced y room′) (c .tells .ensures ∙ ap (λ (t : Told). tells n t) (c .before .tell .ensures))
-    ∙ goes-told (g .allowance) (g .st) (g .q) w n (ap (λ (k : ℕ). x .walk-from .result .taken / k) u) (asked (c .before .before .before) false (c .before .before .if1 .left))
+    ap (λ (y : Within). sliced y room′) (went-told (g .st) _ (x .walk-from .result .phase) (x .walk-from .result .met) _ (c .before .event-by .ensures) (c .place-by .ensures))
+    ∙ goes-told (g .allowance) (g .st) (g .q) w _ (ap (λ (k : ℕ). x .walk-from .result .taken / k) u) (asked (c .before .before .before) false (c .before .before .if1 .left))
     ∙ ap (goesWithin (g .allowance) (g .st) (g .q)) (walked x)
 
 pub go-on-spec : {M : Type 1} → statement M
 go-on-spec =
     tie.close (tie.spec
     (need tie.Need-unit-of-requires (λ c κs. search needs)) sub-smaller-of div-smaller-of (need tie.Need-smaller-of-requires (λ c κs. search needs)) mul-far add-far
-    walk-from-requires add-next div-consumed (need tie.Need-is-nothing-requires (λ c κs. search needs)) (need tie.Need-becomes-requires (λ c κs. search needs))
-    (need tie.Need-paused-requires (λ c κs. search needs)) (need tie.Need-same-length (λ c. search needs)) returns
-    (need tie.Need-tell-requires (λ c κs. search needs)) (need tie.Need-tells-requires (λ c κs. search needs)) (need tie.Need-same-length-2 (λ c. search needs)) returns-2)
+    walk-from-requires add-next div-consumed (need tie.Need-is-nothing-requires (λ c κs. search needs))
+    (need tie.Need-same-length (λ c. search needs)) returns
+    (need tie.Need-event-by-requires (λ c κs. search needs)) (need tie.Need-place-by-requires (λ c κs. search needs)) (need tie.Need-same-length-2 (λ c. search needs)) returns-2)

@@ -10,13 +10,13 @@ use Rattle.lists.proofs.Refusals.{low-none, low-step, low-miss}
 use Rattle.reader.specs.State.{capacity}
 use Rattle.reader.specs.Reading.{readFaultIn}
 use Rattle.reader.proofs.ReadLaws.{fault-1}
-use Rattle.host.specs.Early.{readEarly}
+use Rattle.bytereader.specs.Bytewise.{bytesFault}
 use borrow.Author.Needs.{needs}
 use Rattle.host.proofs.early.read_early.Statement.{statement}
 use Rattle.host.proofs.early.read_early.Tie as tie
 
 returns : tie.Need-returns
-unfolding readEarly
+unfolding bytesFault
 returns c = sym (pick-false _ _ (not-true _ (c .if1 .taken)))
 
 -- both are even
@@ -24,7 +24,7 @@ even : (c : tie.Else1) → (eqb (c .before .args .line % 2) 0 && eqb (c .before 
 even c = not-false _ (c .if1 .left)
 
 returns-2 : tie.Need-returns-2
-unfolding readEarly
+unfolding bytesFault
 returns-2 c =
     let x = c .before in
     let a = x .before .before .args in
@@ -32,7 +32,7 @@ returns-2 c =
     ∙ sym (pick-true _ _ (even (x .before)))
 
 returns-3 : tie.Need-returns-3
-unfolding readEarly readFaultIn
+unfolding bytesFault readFaultIn
 returns-3 c =
     let e = c .before .before in
     let x = e .before in

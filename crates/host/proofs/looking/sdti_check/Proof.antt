@@ -1,9 +1,9 @@
 -- `host::looking::sdti_check` meets its contract: the tests in their order, then the line check's answer. Assumes nothing.
 use Rattle.lists.proofs.Needs.{need}
-use mathlib.Core.Path.{_∙_}
 use native.Mathlib.Omega.{arith}
 use Rattle.octets.proofs.BytesLaws.{length-words}
 use Rattle.host.proofs.LookLaws.{LentIn, lent-in, check-unlent, check-misshaped, check-1, check-told}
+use Rattle.host.proofs.CallLaws.{filled}
 use borrow.Author.Needs.{needs}
 use Rattle.host.proofs.looking.sdti_check.Statement.{statement}
 use Rattle.host.proofs.looking.sdti_check.Tie as tie
@@ -29,17 +29,14 @@ returns-3 c =
 
 returns-4 : tie.Need-returns-4
 returns-4 c =
-    let b = c .before .before .before in
-    let h = b .before .before .before in
-    let n = h .before .before in
-    let x = n .before .before in
+    let n = c .before .before .before .before .before .before in
+    let x = c .before .before .before .before .before .before .before .before in
     let e = x .before in
-    let a = e .before .before .before .before .args in
+    let a = c .before .before .before .before .before .before .before .before .before .before .before .before .before .args in
     check-told (a .system) (a .mode) (a .line .now) (a .header .now) _ (x .check-bytes .ensures) (lent (e .before) .even) (e .if2 .left) _ (n .if3 .left)
-    (b .copy-bytes .ensures ∙ h .header-bytes .ensures)
+    (filled 43 (a .header .now) _ _ (e .if2 .left) (c .before .before .before .put-header .ensures))
 
 pub sdti-check-spec : {M : Type 1} → statement M
 sdti-check-spec =
     tie.close (tie.spec
-    returns returns-2 check-bytes-requires returns-3 (need tie.Need-header-bytes-requires (λ c κs. search needs)) (need tie.Need-slice-aggregate-copy-bytes (λ c. search needs))
-    (need tie.Need-copy-bytes-requires (λ c κs. search needs)) (need tie.Need-cast-result (λ c. search needs)) (need tie.Need-same-length (λ c. search needs)) returns-4)
+    returns returns-2 check-bytes-requires returns-3 (need tie.Need-put-header-requires (λ c κs. search needs)) (need tie.Need-cast-result (λ c. search needs)) (need tie.Need-same-length (λ c. search needs)) returns-4)

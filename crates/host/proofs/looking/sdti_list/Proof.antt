@@ -10,6 +10,7 @@ use Rattle.octets.proofs.BytesLaws.{length-words}
 use Rattle.octets.proofs.PartLaws.{converted}
 use Rattle.packets.specs.Listing.{outcome, listing}
 use Rattle.host.proofs.LookLaws.{LentIn, lent-in, list-unlent, list-no-room, list-misshaped, list-refused, list-told, part-in, written}
+use Rattle.host.proofs.CallLaws.{filled}
 use borrow.Author.Needs.{needs}
 use Rattle.host.proofs.looking.sdti_list.Statement.{statement}
 use Rattle.host.proofs.looking.sdti_list.Tie as tie
@@ -76,22 +77,16 @@ slice-aggregate-bytes-of c = let y = c .before .before .before .before in sym (a
 
 returns-5 : tie.Need-returns-5
 returns-5 c =
-    let b = c .before .before .before in
-    let f = b .before .before .before in
-    let o = f .before .before .before .before in
-    let n = o .before .before .before in
-    let y = n .before .before .before in
-    let e = y .before .before .before .before .before .before in
-    let a = e .before .before .before .before .before .before .args in
+    let o = c .before .before .before .before .before .before .before .before in
+    let n = c .before .before .before .before .before .before .before .before .before .before .before in
+    let y = c .before .before .before .before .before .before .before .before .before .before .before .before .before .before in
+    let e = c .before .before .before .before .before .before .before .before .before .before .before .before .before .before .before .before .before .before .before .before in
+    let a = c .before .before .before .before .before .before .before .before .before .before .before .before .before .before .before .before .before .before .before .before .before .before .before .before .before .before .args in
     list-told (a .system) (a .mode) (a .line .now) (a .out .now) (a .listed .now) _ _ (told y) (lent e .even) (room e .even) (e .if3 .left) _ _ (n .if4 .left)
     (written (a .out .now) (y .list-bytes .last .1 .1 .1 .0) _ _ (room e .even) (long y) (take-at (y .list-bytes .last .1 .1 .1 .0) _ _ (long y)) (o .bytes-of .ensures))
-    (b .copy-bytes .ensures ∙ f .four-numbers .ensures)
+    (filled 16 (a .listed .now) _ _ (e .if3 .left) (c .before .before .before .put-four .ensures))
 
 pub sdti-list-spec : {M : Type 1} → statement M
 sdti-list-spec =
     tie.close (tie.spec
-    returns returns-2 returns-3 (need tie.Need-slice-aggregate-words-of (λ c. search needs)) (need tie.Need-words-of-requires (λ c κs. search needs)) array-borrow-prefix-flat
-    slice-aggregate-list-bytes list-bytes-requires (need tie.Need-same-length (λ c. search needs)) returns-4 array-share-prefix-flat slice-aggregate-bytes-of
-    (need tie.Need-bytes-of-requires (λ c κs. search needs)) (need tie.Need-cast-four-numbers (λ c. search needs)) (need tie.Need-four-numbers-requires (λ c κs. search needs))
-    (need tie.Need-slice-aggregate-copy-bytes (λ c. search needs)) (need tie.Need-copy-bytes-requires (λ c κs. search needs)) (need tie.Need-cast-result (λ c. search needs))
-    (need tie.Need-same-length-2 (λ c. search needs)) (need tie.Need-same-length-3 (λ c. search needs)) returns-5)
+    returns returns-2 returns-3 (need tie.Need-slice-aggregate-words-of (λ c. search needs)) (need tie.Need-words-of-requires (λ c κs. search needs)) array-borrow-prefix-flat slice-aggregate-list-bytes list-bytes-requires (need tie.Need-same-length (λ c. search needs)) returns-4 array-share-prefix-flat slice-aggregate-bytes-of (need tie.Need-bytes-of-requires (λ c κs. search needs)) (need tie.Need-cast-put-four (λ c. search needs)) (need tie.Need-put-four-requires (λ c κs. search needs)) (need tie.Need-cast-result (λ c. search needs)) (need tie.Need-same-length-2 (λ c. search needs)) (need tie.Need-same-length-3 (λ c. search needs)) returns-5)

@@ -1,11 +1,19 @@
 -- `images::frame::settings_in` meets its contract. Assumes nothing.
 use Rattle.lists.proofs.Needs.{need}
+use mathlib.Core.Path.{_≡_, ap, _∙_}
+use lib.ListN.{length}
+use Rattle.images.specs.Fields.{settingsFrom}
 use borrow.Author.Needs.{needs}
 use Rattle.images.proofs.frame.settings_in.Statement.{statement}
 use Rattle.images.proofs.frame.settings_in.Tie as tie
 
+long : (x : tie.After-all) → length (x .before .args .b .now) ≡ 80
+long x = search needs
+
 returns : tie.Need-returns
-returns c = cc
+returns c =
+    let spelt = c .settings-of .ensures ∙ ap settingsFrom (c .before .before .before .copy-bytes .ensures) in
+    (spelt, long (c .before .before .before .before .before .before))
 
 pub settings-in-spec : {M : Type 1} → statement M
 settings-in-spec =

@@ -1,0 +1,19 @@
+-- `images::frame::put_front` meets its contract. Assumes nothing.
+use Rattle.lists.proofs.Needs.{need}
+use mathlib.Core.Path.{_≡_, refl, sym, ap, ap₂, _∙_}
+use mathlib.Core.List.{List, [], _∷_, _++_}
+use Prim.Native.Nat.{ℕ}
+use Rattle.images.proofs.JoinLaws.{last-of}
+use borrow.Author.Needs.{needs}
+use Rattle.images.proofs.frame.put_front.Statement.{statement}
+use Rattle.images.proofs.frame.put_front.Tie as tie
+
+returns : tie.Need-returns
+returns c =
+    let g = c .before .before .before .before .before .before .before .args in
+    c .before .before .copy-bytes .ensures ∙ ap (λ (l : List ℕ). g .tag ∷ g .system ∷ g .mode ∷ l) (last-of (g .last) _ (c .before .before .before .before .before .last-bytes .ensures))
+
+pub put-front-spec : {M : Type 1} → statement M
+put-front-spec =
+    tie.close (tie.spec
+    (need tie.Need-last-bytes-requires (λ c κs. search needs)) (need tie.Need-array-read-t12 (λ c. search needs)) (need tie.Need-array-read-t15 (λ c. search needs)) (need tie.Need-array-read-t18 (λ c. search needs)) (need tie.Need-slice-aggregate-copy-bytes (λ c. search needs)) (need tie.Need-copy-bytes-requires (λ c κs. search needs)) (need tie.Need-same-length (λ c. search needs)) returns)

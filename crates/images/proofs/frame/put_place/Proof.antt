@@ -1,0 +1,34 @@
+-- `images::frame::put_place` meets its contract. Assumes nothing.
+use Rattle.lists.proofs.Needs.{need}
+use mathlib.Core.Path.{_≡_, refl, sym, ap, ap₂, _∙_}
+use mathlib.Core.List.{List, [], _∷_, _++_}
+use Prim.Native.Nat.{ℕ}
+use native.Mathlib.Omega.{arith}
+use lib.Seq.{length-take-le}
+use Rattle.images.specs.Fields.{bytesFor}
+use Rattle.images.proofs.NumberLaws.{second-number}
+use Rattle.images.proofs.JoinLaws.{laid-two}
+use borrow.Author.Needs.{needs}
+use Rattle.images.proofs.frame.put_place.Statement.{statement}
+use Rattle.images.proofs.frame.put_place.Tie as tie
+
+slice-aggregate-copy-bytes-2 : tie.Need-slice-aggregate-copy-bytes-2
+slice-aggregate-copy-bytes-2 c =
+    sym (length-take-le 2 (c .before .before .before .before .args .out .now) (omega (arith, c .before .before .before .before .pre)))
+
+copy-bytes-requires : tie.Need-copy-bytes-requires
+copy-bytes-requires c κs =
+    sym (length-take-le 2 (c .before .before .before .before .args .out .now) (omega (arith, c .before .before .before .before .pre)))
+
+returns : tie.Need-returns
+returns c =
+    let s = c .before .before .before .before .before .before .before .before .before .before .before .before in
+    let g = s .args in
+    let first = c .before .before .before .before .before .before .before .copy-bytes .ensures ∙ ap (λ (x : ℕ). x ∷ g .kind ∷ []) (c .before .before .before .before .before .before .before .before .before .before .place-byte .ensures) in
+    laid-two 2 8 _ _ (g .out .now) _ _ (s .pre) refl first
+    (second-number 2 8 _ _ (g .out .now) _ _ (s .pre) refl first (c .before .before .put-number .ensures) ∙ ap (bytesFor 8) (c .before .before .before .before .place-of .ensures))
+
+pub put-place-spec : {M : Type 1} → statement M
+put-place-spec =
+    tie.close (tie.spec
+    (need tie.Need-place-byte-requires (λ c κs. search needs)) (need tie.Need-slice-aggregate-copy-bytes (λ c. search needs)) (need tie.Need-slice-relend-prefix-copy-bytes (λ c. search needs)) slice-aggregate-copy-bytes-2 copy-bytes-requires (need tie.Need-place-of-requires (λ c κs. search needs)) (need tie.Need-sub-put-number (λ c. search needs)) (need tie.Need-part-put-number-start (λ c. search needs)) (need tie.Need-part-put-number-end (λ c. search needs)) (need tie.Need-put-number-requires (λ c κs. search needs)) (need tie.Need-same-length (λ c. search needs)) returns)

@@ -1,0 +1,19 @@
+-- `images::frame::shows_last` meets its contract. Assumes nothing.
+use Rattle.lists.proofs.Needs.{need}
+use mathlib.Core.Path.{_≡_, refl, sym, ap, ap₂, _∙_}
+use native.Mathlib.Omega.{arith}
+use Rattle.images.proofs.JoinLaws.{last-of}
+use Rattle.images.proofs.ShownLaws.{last-shown}
+use borrow.Author.Needs.{needs}
+use Rattle.images.proofs.frame.shows_last.Statement.{statement}
+use Rattle.images.proofs.frame.shows_last.Tie as tie
+
+returns : tie.Need-returns
+returns c =
+    let g = c .before .before .before .before .args in
+    last-shown (g .b .now) (c .before .before .before .last-bytes .result) (g .last) (omega (arith, c .before .before .before .before .pre)) (last-of (g .last) (c .before .before .before .last-bytes .result) (c .before .before .before .last-bytes .ensures))
+
+pub shows-last-spec : {M : Type 1} → statement M
+shows-last-spec =
+    tie.close (tie.spec
+    (need tie.Need-last-bytes-requires (λ c κs. search needs)) (need tie.Need-element-copy-out-result (λ c. search needs)) (need tie.Need-array-read-result (λ c. search needs)) (need tie.Need-element-copy-out-result-2 (λ c. search needs)) (need tie.Need-array-read-result-2 (λ c. search needs)) (need tie.Need-element-copy-out-result-3 (λ c. search needs)) (need tie.Need-array-read-result-3 (λ c. search needs)) returns)

@@ -1,0 +1,35 @@
+-- `images::writer_image::shows_rest` meets its contract. Assumes nothing.
+use Rattle.lists.proofs.Needs.{need}
+use mathlib.Core.Path.{_≡_, refl, sym, ap, ap₂, _∙_}
+use native.Mathlib.Omega.{arith}
+use mathlib.Core.Bool.{Bool, _&&_}
+use Prim.Native.Nat.{ℕ}
+use lib.Dec.{eqb}
+use lib.ListN.{length, getD}
+use mathlib.Core.List.{List}
+use Rattle.lists.specs.Lists.{part, same}
+use Rattle.lists.proofs.Lists.{length-part}
+use Rattle.images.specs.Fields.{bytesFor, numberFrom}
+use Rattle.images.proofs.NumberLaws.{same-number}
+use Rattle.images.proofs.WriterLaws.{length-rest}
+use Rattle.images.proofs.ShownLaws.{seven-shown}
+use borrow.Author.Needs.{needs}
+use Rattle.images.proofs.writer_image.shows_rest.Statement.{statement}
+use Rattle.images.proofs.writer_image.shows_rest.Tie as tie
+
+returns : tie.Need-returns
+returns c =
+    let g = c .before .before .before .before .before .before .before .before .before .before .before .before .before .args in
+    let b = g .b .now in
+    let x = c .before .before .before .before .before .before .before .before .before .before .before .before .rest-bytes in
+    let n = c .number-from in
+    let long = c .before .before .before .before .before .before .before .before .before .before .before .before .before .pre in
+    let zeros : bytesFor 8 (numberFrom (part 29 8 b)) ≡ part 29 8 b = ap₂ bytesFor (sym (length-part 29 8 b (omega (arith, long)))) (sym (n .ensures .0)) ∙ n .ensures .2 in
+    let last = ap (λ (u : ℕ). eqb u 0) (n .ensures .0) ∙ same-number 8 0 (part 29 8 b) zeros (omega arith) in
+    let seven = seven-shown b (x .result) long (ap length (x .ensures) ∙ length-rest (g .rest)) ∙ ap (same (part 16 7 b)) (x .ensures) in
+    ap₂ (λ (u v : Bool). u && v) (ap (eqb (getD b 7 0)) (c .before .before .rest-byte .ensures)) (ap₂ (λ (u v : Bool). u && v) seven last)
+
+pub shows-rest-spec : {M : Type 1} → statement M
+shows-rest-spec =
+    tie.close (tie.spec
+    (need tie.Need-rest-bytes-requires (λ c κs. search needs)) (need tie.Need-element-copy-out-laid (λ c. search needs)) (need tie.Need-array-read-laid (λ c. search needs)) (need tie.Need-element-copy-out-laid-2 (λ c. search needs)) (need tie.Need-array-read-laid-2 (λ c. search needs)) (need tie.Need-element-copy-out-laid-3 (λ c. search needs)) (need tie.Need-array-read-laid-3 (λ c. search needs)) (need tie.Need-element-copy-out-block (λ c. search needs)) (need tie.Need-array-read-block (λ c. search needs)) (need tie.Need-element-copy-out-block-2 (λ c. search needs)) (need tie.Need-array-read-block-2 (λ c. search needs)) (need tie.Need-element-copy-out-block-3 (λ c. search needs)) (need tie.Need-array-read-block-3 (λ c. search needs)) (need tie.Need-element-copy-out-block-4 (λ c. search needs)) (need tie.Need-array-read-block-4 (λ c. search needs)) (need tie.Need-element-copy-out-result (λ c. search needs)) (need tie.Need-rest-byte-requires (λ c κs. search needs)) (need tie.Need-sub-number-from (λ c. search needs)) (need tie.Need-part-number-from-start (λ c. search needs)) (need tie.Need-part-number-from-end (λ c. search needs)) (need tie.Need-number-from-requires (λ c κs. search needs)) returns)
