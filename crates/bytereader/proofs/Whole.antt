@@ -1,12 +1,11 @@
 -- An allowance that no line uses up: the call tells what a reading call without allowance tells. So one function serves both.
 -- Assumes nothing.
-use mathlib.Core.Path.{_≡_, refl, sym, ap, ap₂, _∙_}
+use mathlib.Core.Path.{_≡_, refl, sym, ap, _∙_}
 use mathlib.Core.Bool.{Bool, true, false, _&&_}
 use mathlib.Core.List.{List}
-use Prim.Native.Nat.{ℕ, _+_, _*_, _≤_, _<_}
+use Prim.Native.Nat.{ℕ, _*_, _≤_, _<_}
 use native.Mathlib.Nat.{mul-le-mul-left}
 use native.Mathlib.Omega.{arith}
-use lib.ListN.{length}
 use Rattle.lists.proofs.Tests.{pick-true, pick-false}
 use Rattle.octets.specs.Bytes.{wordsOf, bytesOf, isEven}
 use Rattle.course.specs.Course.{placeOf}
@@ -20,7 +19,7 @@ use Rattle.reader.proofs.Ready.{ready}
 use Rattle.reader.proofs.ReadLaws.{end-small}
 use Rattle.reader.proofs.Pausing.{Pauses, Outcome, is-paused, is-told}
 use Rattle.reader.proofs.AtCapacity.{outcome}
-use Rattle.bytereader.specs.Bytewise.{refusedOdd, readBytes, withinBytes}
+use Rattle.bytereader.specs.Bytewise.{readBytes, withinBytes}
 
 -- the same report, state and room
 pub record Same (x : Sliced) (y : Reply) : Type 0 where

@@ -1,56 +1,13 @@
-// A line checked, and the packets of its gap listed. No state is asked.
-use images::fields;
-use line::check::Checked;
-use linecheck::check;
-use packets::list;
-use packets::list::Listed;
+// A line checked, and the packets of its gap listed.
+use hostreads::looking;
 ghost use mathlib.Core.Path.{_≡_};
-ghost use Prim.Native.Nat.{_≤_};
-ghost use lib.ListN.{length};
-ghost use Rattle.line.specs.Check.{checkedOf};
-ghost use Rattle.packets.specs.Listing.{outcome, listing};
-ghost use Rattle.octets.specs.Bytes.{wordsOf};
-ghost use Rattle.host.specs.Looking.{looked, checks, listings, lists};
-
-// The line check on the words that the bytes spell.
-fn check_bytes(system: u8, mode: u8, line: &[u8]) -> Checked
-    requires { ⌜ length (wordsOf (now line)) ≤ 2304 ⌝ }
-    ensures { λ r. ⌜ r ≡ checkedOf system mode (wordsOf (now (line .entry))) ⌝ }
-{
-    let mut words = [0u16; 2304];
-    octets::words_of(line, &mut words);
-    let n = line.len() / 2;
-    check::check(system, mode, &words[..n])
-}
-
-// The list of the packets in the gap of the line that the bytes spell.
-fn list_bytes(system: u8, mode: u8, line: &[u8], out: &mut [u16]) -> Listed
-    requires { ⌜ length (wordsOf (now line)) ≤ 2304 ⌝ }
-    ensures { λ r. ⌜ outcome r (now (out .exit)) ≡ listing system mode (wordsOf (now (line .entry))) (now (out .entry)) ⌝ }
-{
-    let mut words = [0u16; 2304];
-    octets::words_of(line, &mut words);
-    let n = line.len() / 2;
-    list::list(system, mode, &words[..n], out)
-}
+ghost use Rattle.calls.specs.Looking.{looked, checks, listings, lists};
 
 #[no_mangle]
 pub extern "C" fn sdti_check(system: u8, mode: u8, line: &[u8], header: &mut [u8]) -> u32
     ensures { λ r. ⌜ looked r (now (header .exit)) ≡ checks system mode (now (line .entry)) (now (header .entry)) ⌝ }
 {
-    if (line.len() % 2 != 0) | (4608 < line.len()) {
-        return 1;
-    }
-    if header.len() != 43 {
-        return 1;
-    }
-    let c = check_bytes(system, mode, line);
-    if c.fault == 1 {
-        return 1;
-    }
-    let t = c.settings;
-    fields::put_header(c.number, t, header);
-    c.fault as u32
+    looking::check_line(system, mode, line, header)
 }
 
 #[no_mangle]
@@ -63,23 +20,5 @@ pub extern "C" fn sdti_list(
 ) -> u32
     ensures { λ r. ⌜ listings r (now (out .exit)) (now (listed .exit)) ≡ lists system mode (now (line .entry)) (now (out .entry)) (now (listed .entry)) ⌝ }
 {
-    if (line.len() % 2 != 0) | (4608 < line.len()) {
-        return 1;
-    }
-    if (out.len() % 2 != 0) | (1024 < out.len()) {
-        return 1;
-    }
-    if listed.len() != 16 {
-        return 1;
-    }
-    let m = out.len() / 2;
-    let mut flat = [0u16; 512];
-    octets::words_of(out, &mut flat);
-    let x = list_bytes(system, mode, line, &mut flat[..m]);
-    if x.fault == 1 {
-        return 1;
-    }
-    octets::bytes_of(&flat[..m], out);
-    fields::put_four(x.packets, x.words, x.gap, x.stop as usize, listed);
-    x.fault as u32
+    looking::list_packets(system, mode, line, out, listed)
 }

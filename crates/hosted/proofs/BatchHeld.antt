@@ -25,7 +25,7 @@ use Rattle.writer.specs.Batch.{Entry, whole, broken, entriesOf, Batched, behind
 use Rattle.writer.proofs.Refusals.{can-add}
 use Rattle.writer.proofs.Keeps.{add-leaves}
 use Rattle.writer.proofs.Stays.{add-possible, add-never-2}
-use Rattle.host.specs.Answers.{stopAnswer}
+use Rattle.calls.specs.Answers.{stopAnswer}
 use Rattle.hosted.specs.Hosted.{isEarly}
 use Rattle.hosted.proofs.Early.{late-2}
 use Rattle.hosted.proofs.WriterHeld.{Sound, add-sound}

@@ -9,7 +9,7 @@ use lib.Dec.{eqb}
 use borrow.Author.Tests.{eqb-true, eqb-false}
 use Rattle.lists.specs.Tests.{pick}
 use Rattle.lists.proofs.Tests.{true-false, or-false}
-use Rattle.host.specs.Answers.{refusal}
+use Rattle.calls.specs.Answers.{refusal}
 use Rattle.hosted.specs.Hosted.{isEarly}
 
 order-by : {A : Type 0} (a b : Bool) (n : ℕ) (x : A) (f : ℕ → A) → eqb n 1 ≡ a → eqb n 2 ≡ b

@@ -46,11 +46,11 @@ use Rattle.images.specs.Held.{HeldReader, HeldWriter, heldPlace, heldRest}
 use Rattle.images.specs.ReaderImage.{imageOf as readerImage, stateOf as readerOf, isImage as isReader}
 use Rattle.images.specs.WriterImage.{imageOf as writerImage, stateOf as writerOf, isImage as isWriter}
 use Rattle.images.specs.EventImage.{eventImage}
-use Rattle.host.specs.Answers.{eventAnswer, reportAnswer, doneAnswer, laidAnswer, stopAnswer}
-use Rattle.host.specs.Making.{makesReader, makesWriter}
-use Rattle.host.specs.Reading.{Read, gave, reads, readsWithin}
-use Rattle.host.specs.Writing.{Wrote, wrote, opens, adds, packs, closes, WroteMany, addsMany}
-use Rattle.host.specs.Looking.{headerBytes, looked, checks, listedBytes, listings, lists}
+use Rattle.calls.specs.Answers.{eventAnswer, reportAnswer, doneAnswer, laidAnswer, stopAnswer}
+use Rattle.calls.specs.Making.{makesReader, makesWriter}
+use Rattle.calls.specs.Reading.{Read, gave, reads, readsWithin}
+use Rattle.calls.specs.Writing.{Wrote, wrote, opens, adds, packs, closes, WroteMany, addsMany}
+use Rattle.calls.specs.Looking.{headerBytes, looked, checks, listedBytes, listings, lists}
 use Rattle.hosted.specs.Courses as courses
 use Rattle.hosted.specs.Hosted.{isEarly, readAs, readWithinAs}
 use Rattle.hosted.proofs.HostedHolds.{hosted}

@@ -13,7 +13,7 @@ use Rattle.octets.specs.Bytes.{bytesOf, isEven}
 use Rattle.octets.proofs.BytesLaws.{words-back}
 use Rattle.line.specs.Check.{checkedOf}
 use Rattle.packets.specs.Listing.{Outcome, listFault, listing}
-use Rattle.host.specs.Looking.{headerLength, headerBytes, looked, checks, listedLength, listedBytes, listings, lists}
+use Rattle.calls.specs.Looking.{headerLength, headerBytes, looked, checks, listedLength, listedBytes, listings, lists}
 use Rattle.hosted.proofs.EvenBytes.{even-bytes}
 
 -- 1 leaves what was lent, where buffers are in order

@@ -24,9 +24,9 @@ use Rattle.images.specs.Frame.{imageLength}
 use Rattle.images.specs.ReaderImage.{imageOf, stateOf, isImage}
 use Rattle.images.proofs.ImageLaws.{state-image, image-given}
 use Rattle.bytereader.specs.Bytewise.{readBytes, withinBytes}
-use Rattle.host.specs.Answers.{eventAnswer, reportAnswer}
-use Rattle.host.specs.Making.{Made, made, makesReader}
-use Rattle.host.specs.Reading.{Read, gave, reads, readsWithin}
+use Rattle.calls.specs.Answers.{eventAnswer, reportAnswer}
+use Rattle.calls.specs.Making.{Made, made, makesReader}
+use Rattle.calls.specs.Reading.{Read, gave, reads, readsWithin}
 use Rattle.hosted.specs.Courses.{ReaderImages, fresh, read, readWithin}
 use Rattle.hosted.proofs.Early.{never-2-by}
 use Rattle.hosted.proofs.ReaderHeld.{Sound, sound-held, fresh-sound, read-sound, within-sound}

@@ -21,8 +21,8 @@ use Rattle.images.specs.ReaderImage.{imageOf, isImage}
 use Rattle.images.specs.EventImage.{eventLength, eventImage}
 use Rattle.images.proofs.ImageLaws.{state-image, image-given, image-length}
 use Rattle.bytereader.specs.Bytewise.{refusedOdd, readBytes, withinBytes}
-use Rattle.host.specs.Answers.{eventAnswer, reportAnswer, refusal}
-use Rattle.host.specs.Reading.{gave, reads, readsWithin}
+use Rattle.calls.specs.Answers.{eventAnswer, reportAnswer, refusal}
+use Rattle.calls.specs.Reading.{gave, reads, readsWithin}
 use Rattle.hosted.specs.Hosted.{readAs, readWithinAs}
 use Rattle.hosted.proofs.Early.{in-order}
 use Rattle.hosted.proofs.EvenBytes.{even-bytes}

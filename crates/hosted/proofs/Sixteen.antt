@@ -25,7 +25,7 @@ use Rattle.writer.specs.Opening.{openFault, opening}
 use Rattle.writer.specs.Adding.{valued, illShaped, addFault, adding}
 use Rattle.writer.proofs.StateLaws.{not-opened}
 use Rattle.writer.proofs.Calls.{add-refused}
-use Rattle.host.specs.Answers.{sixteen}
+use Rattle.calls.specs.Answers.{sixteen}
 use Rattle.hosted.proofs.CourseHeld.{lines-most}
 
 few : (n : ℕ) → n ≤ 65535 → min n 65535 ≡ n

@@ -27,9 +27,9 @@ use Rattle.images.specs.Frame.{imageLength}
 use Rattle.images.specs.WriterImage.{imageOf, stateOf, isImage}
 use Rattle.images.proofs.WriterLaws.{state-image, image-given}
 use Rattle.bytewriter.specs.Bytewise.{openBytes, addBytes, manyBytes, packBytes, closeBytes}
-use Rattle.host.specs.Answers.{doneAnswer, laidAnswer, stopAnswer, sixteen}
-use Rattle.host.specs.Making.{Made, made, makesWriter}
-use Rattle.host.specs.Writing.{settingsLength, Wrote, wrote, opens, adds, packs, closes, WroteMany, wroteMany, addsMany}
+use Rattle.calls.specs.Answers.{doneAnswer, laidAnswer, stopAnswer, sixteen}
+use Rattle.calls.specs.Making.{Made, made, makesWriter}
+use Rattle.calls.specs.Writing.{settingsLength, Wrote, wrote, opens, adds, packs, closes, WroteMany, wroteMany, addsMany}
 use Rattle.hosted.specs.Courses.{WriterImages, fresh, opened, added, addedMany, packed, closed}
 use Rattle.hosted.proofs.Early.{never-2-by, in-shape}
 use Rattle.hosted.proofs.SettingsHeld.{Octets, spelled-octets}

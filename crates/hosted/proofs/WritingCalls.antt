@@ -31,8 +31,8 @@ use Rattle.images.specs.WriterImage.{imageOf, isImage}
 use Rattle.images.proofs.FrameLaws.{length-settings, settings-back}
 use Rattle.images.proofs.WriterLaws.{state-image, image-given, image-length}
 use Rattle.bytewriter.specs.Bytewise.{openBytes, addBytes, manyBytes, packBytes, closeBytes}
-use Rattle.host.specs.Answers.{doneAnswer, laidAnswer, stopAnswer, refusal, sixteen}
-use Rattle.host.specs.Writing.{settingsLength, wrote, opens, adds, packs, closes, wroteMany, addsMany}
+use Rattle.calls.specs.Answers.{doneAnswer, laidAnswer, stopAnswer, refusal, sixteen}
+use Rattle.calls.specs.Writing.{settingsLength, wrote, opens, adds, packs, closes, wroteMany, addsMany}
 use Rattle.hosted.specs.Hosted.{isEarly}
 use Rattle.hosted.proofs.Early.{in-order, none-early, either-way}
 use Rattle.hosted.proofs.EvenBytes.{even-bytes}

@@ -8,9 +8,9 @@ use lib.ListN.{length}
 use Rattle.lists.specs.Lists.{each}
 use Rattle.line.specs.Settings.{small}
 use Rattle.images.specs.Frame.{imageLength}
-use Rattle.host.specs.Making.{makesReader, makesWriter}
-use Rattle.host.specs.Reading.{reads, readsWithin}
-use Rattle.host.specs.Writing.{opens, adds, addsMany, packs, closes}
+use Rattle.calls.specs.Making.{makesReader, makesWriter}
+use Rattle.calls.specs.Reading.{reads, readsWithin}
+use Rattle.calls.specs.Writing.{opens, adds, addsMany, packs, closes}
 
 pub data ReaderImages : List ℕ → Type 0 where
   fresh : (system mode : ℕ) → small system ≡ true → small mode ≡ true → (lent : List ℕ) → length lent ≡ imageLength → ReaderImages (makesReader system mode lent .state)

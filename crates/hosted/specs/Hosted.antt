@@ -30,10 +30,10 @@ use Rattle.images.specs.Held.{HeldReader, HeldWriter, two}
 use Rattle.images.specs.ReaderImage.{imageOf as readerImage, stateOf as readerOf, isImage as isReader}
 use Rattle.images.specs.WriterImage.{imageOf as writerImage, stateOf as writerOf, isImage as isWriter}
 use Rattle.images.specs.EventImage.{eventLength, eventImage}
-use Rattle.host.specs.Answers.{eventAnswer, reportAnswer, doneAnswer, laidAnswer, stopAnswer}
-use Rattle.host.specs.Reading.{Read, gave, reads, readsWithin}
-use Rattle.host.specs.Writing.{wrote, opens, adds, packs, closes, wroteMany, addsMany}
-use Rattle.host.specs.Looking.{headerLength, headerBytes, looked, checks, listedLength, listedBytes, listings, lists}
+use Rattle.calls.specs.Answers.{eventAnswer, reportAnswer, doneAnswer, laidAnswer, stopAnswer}
+use Rattle.calls.specs.Reading.{Read, gave, reads, readsWithin}
+use Rattle.calls.specs.Writing.{wrote, opens, adds, packs, closes, wroteMany, addsMany}
+use Rattle.calls.specs.Looking.{headerLength, headerBytes, looked, checks, listedLength, listedBytes, listings, lists}
 use Rattle.hosted.specs.Courses.{ReaderImages, WriterImages}
 
 -- 1 and 2, after which no byte is changed

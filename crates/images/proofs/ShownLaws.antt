@@ -2,19 +2,18 @@
 -- Assumes nothing.
 use mathlib.Core.Path.{_≡_, refl, sym, ap, ap₂, _∙_}
 use mathlib.Core.Bool.{Bool, true, false, _&&_}
-use mathlib.Core.List.{List, [], _∷_, _++_, append-assoc}
+use mathlib.Core.List.{List, [], _∷_, _++_}
 use Prim.Native.Nat.{ℕ, zero, suc, _+_, _<_, _≤_, _^_}
 use native.Mathlib.Omega.{arith}
 use lib.Dec.{eqb}
-use lib.ListN.{length, getD, take, drop, replicate, length-append, length-take, length-drop}
-use lib.Seq.{drop-cons, drop-drop, take-all}
+use lib.ListN.{length, getD, take, replicate}
+use lib.Seq.{drop-cons, take-all}
 use borrow.Author.Tests.{eq-eqb}
 use Rattle.lists.specs.Lists.{part, same}
-use Rattle.lists.proofs.Lists.{part-add, length-part, part-part, eq-same}
+use Rattle.lists.proofs.Lists.{part-add, length-part, eq-same}
 use Rattle.course.specs.declared.Last.{Last}
 use Rattle.course.specs.declared.Place.{Place}
 use Rattle.course.specs.Course.{placeOf}
-use Rattle.line.specs.declared.settings.Settings.{Settings}
 use Rattle.images.specs.Fields.{bytesFor, numberFrom, settingsBytes, settingsFrom}
 use Rattle.images.specs.Frame.{lastBytes, placeByte, framed, heldIn, showsFrame}
 use Rattle.images.specs.ReaderImage.{countBytes}

@@ -1,11 +1,10 @@
 -- The reader's state as 80 bytes, and back. In 7 stands the phase: 0 idle; 1 type awaited; 2 to 5 the first to the fourth count byte awaited; 6 data.
 -- Of the block are held: 16 the mark, 0 none, 1 a type, 2 a null; 17 the type; 18-20 the count bytes so far; 21-28 the count announced; 29-36 the number collected.
 -- Assumes nothing.
-use Prim.Native.Nat.{ℕ, zero, suc, _<_, _^_}
-use mathlib.Core.Path.{_≡_}
+use Prim.Native.Nat.{ℕ, zero, suc}
 use mathlib.Core.Bool.{Bool}
 use mathlib.Core.List.{List, [], _∷_, _++_}
-use lib.ListN.{getD, replicate, take, drop}
+use lib.ListN.{getD, take, drop}
 use Rattle.lists.specs.Lists.{part, same}
 use Rattle.course.specs.declared.Place.{Place}
 use Rattle.course.specs.Course.{placeOf}

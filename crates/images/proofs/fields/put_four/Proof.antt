@@ -1,6 +1,6 @@
 -- `images::fields::put_four` meets its contract. Assumes nothing.
 use Rattle.lists.proofs.Needs.{need}
-use mathlib.Core.Path.{_≡_, refl, sym, ap, ap₂, _∙_}
+use mathlib.Core.Path.{sym, _∙_}
 use mathlib.Core.List.{_++_, append-assoc}
 use lib.ListN.{length-append}
 use native.Mathlib.Omega.{arith}

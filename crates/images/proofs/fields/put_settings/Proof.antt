@@ -1,6 +1,6 @@
 -- `images::fields::put_settings` meets its contract. Assumes nothing.
 use Rattle.lists.proofs.Needs.{need}
-use mathlib.Core.Path.{_≡_, refl, sym, ap, ap₂, _∙_}
+use mathlib.Core.Path.{_∙_}
 use Rattle.images.proofs.JoinLaws.{settings-join}
 use borrow.Author.Needs.{needs}
 use Rattle.images.proofs.fields.put_settings.Statement.{statement}

@@ -1,6 +1,5 @@
 -- `images::frame::shows_last` meets its contract. Assumes nothing.
 use Rattle.lists.proofs.Needs.{need}
-use mathlib.Core.Path.{_≡_, refl, sym, ap, ap₂, _∙_}
 use native.Mathlib.Omega.{arith}
 use Rattle.images.proofs.JoinLaws.{last-of}
 use Rattle.images.proofs.ShownLaws.{last-shown}

@@ -1,6 +1,6 @@
 -- `images::reader_image::put_moved` meets its contract. Assumes nothing.
 use Rattle.lists.proofs.Needs.{need}
-use mathlib.Core.Path.{_≡_, refl, sym, ap, ap₂, _∙_}
+use mathlib.Core.Path.{sym, _∙_}
 use borrow.Author.Tests.{eq-eqb, ne-eqb}
 use Rattle.lists.proofs.Tests.{pick-true, pick-false}
 use Rattle.images.specs.ReaderImage.{standBytes, moved}

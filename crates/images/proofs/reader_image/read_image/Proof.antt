@@ -1,11 +1,9 @@
 -- `images::reader_image::read_image` meets its contract: the fields that the state gives stand where they were read. Assumes nothing.
 use Rattle.lists.proofs.Needs.{need}
-use mathlib.Core.Path.{_≡_, refl, sym, ap, ap₂, _∙_}
+use mathlib.Core.Path.{ap, ap₂, _∙_}
 use mathlib.Core.Bool.{Bool, _&&_}
-use mathlib.Core.List.{List}
-use Prim.Native.Nat.{ℕ}
 use lib.Dec.{eqb}
-use lib.ListN.{length, getD}
+use lib.ListN.{getD}
 use Rattle.lists.specs.Lists.{same}
 use Rattle.course.specs.declared.Last.{Last}
 use Rattle.course.specs.declared.Place.{Place}

@@ -1,12 +1,9 @@
 -- `images::writer_image::put_kept` meets its contract. Assumes nothing.
 use Rattle.lists.proofs.Needs.{need}
-use mathlib.Core.Path.{_≡_, refl, sym, ap, ap₂, _∙_}
-use mathlib.Core.List.{List, _∷_, _++_}
-use Prim.Native.Nat.{ℕ, _/_, _%_, _<_, _^_}
+use mathlib.Core.Path.{sym, _∙_}
+use Prim.Native.Nat.{_<_, _^_}
 use native.Mathlib.Omega.{arith}
 use lib.Seq.{length-take-le}
-use lib.ListN.{replicate}
-use Rattle.images.specs.Fields.{bytesFor}
 use Rattle.images.proofs.NumberLaws.{length-bytes, first-number, second-number, wide}
 use Rattle.images.proofs.JoinLaws.{laid-two}
 use borrow.Author.Needs.{needs}

@@ -1,20 +1,19 @@
 -- `images::writer_image::read_image` meets its contract: the fields that the state gives stand where they were read. Assumes nothing.
 use Rattle.lists.proofs.Needs.{need}
-use mathlib.Core.Path.{_≡_, refl, sym, ap, ap₂, _∙_}
+use mathlib.Core.Path.{_≡_, sym, ap, ap₂, _∙_}
 use native.Mathlib.Omega.{arith}
 use mathlib.Core.Bool.{Bool, _&&_}
-use mathlib.Core.List.{List, _++_}
-use Prim.Native.Nat.{ℕ, _+_, _≤_}
+use Prim.Native.Nat.{_+_, _≤_}
 use lib.Dec.{eqb}
-use lib.ListN.{length, getD, replicate}
+use lib.ListN.{length, getD}
 use Rattle.lists.specs.Lists.{part, same}
-use Rattle.lists.proofs.Lists.{length-part, part-part}
+use Rattle.lists.proofs.Lists.{length-part}
 use Rattle.course.specs.declared.Last.{Last}
 use Rattle.course.specs.declared.Place.{Place}
 use Rattle.writer.specs.declared.state.Rest.{Rest}
 use Rattle.images.specs.Fields.{bytesFor, numberFrom}
-use Rattle.images.specs.Frame.{lastIn, placeIn, heldIn, showsFrame}
-use Rattle.images.specs.WriterImage.{writerTag, restByte, restBytes, restBy, imageOf, stateOf, isImage}
+use Rattle.images.specs.Frame.{showsFrame}
+use Rattle.images.specs.WriterImage.{writerTag, restByte, restBytes, restBy, stateOf}
 use Rattle.images.proofs.NumberLaws.{part-less}
 use Rattle.images.proofs.WriterLaws.{image-shown}
 use borrow.Author.Needs.{needs}
