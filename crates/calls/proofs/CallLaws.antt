@@ -12,13 +12,13 @@ use Rattle.lists.specs.Tests.{pick, when, lowestOf}
 use Rattle.lists.proofs.Tests.{both-true, true-false, pick-true, pick-false}
 use Rattle.octets.specs.Bytes.{isEven}
 use Rattle.line.specs.declared.settings.Settings.{Settings}
-use Rattle.images.specs.Fields.{bytesFor, settingsFrom}
-use Rattle.images.specs.Frame.{imageLength}
+use Rattle.fields.specs.Fields.{bytesFor, settingsFrom}
+use Rattle.fields.specs.Frame.{imageLength}
 use Rattle.images.specs.ReaderImage.{imageOf as readerBytes, stateOf as readerFrom, isImage as isReader, moved}
 use Rattle.images.proofs.ImageLaws.{moved-image}
-use Rattle.images.specs.WriterImage.{imageOf as writerBytes, stateOf as writerFrom, isImage as isWriter}
-use Rattle.images.specs.EventImage.{eventLength, eventImage}
-use Rattle.images.proofs.EventLaws.{event-length, uncounted}
+use Rattle.writerimages.specs.WriterImage.{imageOf as writerBytes, stateOf as writerFrom, isImage as isWriter}
+use Rattle.events.specs.EventImage.{eventLength, eventImage}
+use Rattle.events.proofs.EventLaws.{event-length, uncounted}
 use Rattle.reader.specs.declared.state.Reader.{Reader}
 use Rattle.reader.specs.declared.within.Report.{Report}
 use Rattle.reader.specs.declared.within.Report.the-variants.{Told}

@@ -22,7 +22,7 @@ use Rattle.octets.proofs.PartLaws.{paste-whole}
 use Rattle.packets.specs.declared.list.Listed.{Listed}
 use Rattle.packets.specs.Listing.{gapLength, Outcome, outcome, listing}
 use Rattle.packets.proofs.ListingLaws.{list-1, list-fault}
-use Rattle.images.specs.Fields.{bytesFor, settingsBytes}
+use Rattle.fields.specs.Fields.{bytesFor, settingsBytes}
 use Rattle.calls.specs.Looking.{headerLength, headerBytes, looked, checks, listedLength, listedBytes, listings, lists}
 
 -- ---- a buffer of bytes

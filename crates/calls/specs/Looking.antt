@@ -12,7 +12,7 @@ use Rattle.line.specs.declared.check.Checked.{Checked}
 use Rattle.line.specs.Check.{checkedOf}
 use Rattle.packets.specs.declared.list.Listed.{Listed}
 use Rattle.packets.specs.Listing.{listing}
-use Rattle.images.specs.Fields.{bytesFor, settingsBytes}
+use Rattle.fields.specs.Fields.{bytesFor, settingsBytes}
 
 -- the header: the line number, and the settings as in a state; zeros where there is a fault
 abbrev pub headerLength : ℕ

@@ -7,9 +7,9 @@ use lib.ListN.{length}
 use Rattle.lists.specs.Tests.{pick}
 use Rattle.reader.specs.State.{fresh as freshReader}
 use Rattle.writer.specs.State.{fresh as freshWriter}
-use Rattle.images.specs.Frame.{imageLength}
+use Rattle.fields.specs.Frame.{imageLength}
 use Rattle.images.specs.ReaderImage.{imageOf as readerImage}
-use Rattle.images.specs.WriterImage.{imageOf as writerImage}
+use Rattle.writerimages.specs.WriterImage.{imageOf as writerImage}
 
 -- the answer, and the bytes lent for the image
 pub record Made : Type 0 where

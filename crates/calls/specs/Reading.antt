@@ -8,9 +8,9 @@ use lib.Dec.{eqb}
 use lib.ListN.{length}
 use Rattle.lists.specs.Tests.{pick}
 use Rattle.reader.specs.declared.within.Report.the-variants.{Told}
-use Rattle.images.specs.Frame.{imageLength}
+use Rattle.fields.specs.Frame.{imageLength}
 use Rattle.images.specs.ReaderImage.{imageOf, stateOf, isImage}
-use Rattle.images.specs.EventImage.{eventLength, eventImage}
+use Rattle.events.specs.EventImage.{eventLength, eventImage}
 use Rattle.bytereader.specs.Bytewise.{readBytes, withinBytes}
 use Rattle.calls.specs.Answers.{eventAnswer, reportAnswer, refusal}
 

@@ -7,9 +7,9 @@ use mathlib.Core.List.{List}
 use lib.Dec.{eqb}
 use lib.ListN.{length}
 use Rattle.lists.specs.Tests.{pick}
-use Rattle.images.specs.Fields.{settingsFrom}
-use Rattle.images.specs.Frame.{imageLength}
-use Rattle.images.specs.WriterImage.{imageOf, stateOf, isImage}
+use Rattle.fields.specs.Fields.{settingsFrom}
+use Rattle.fields.specs.Frame.{imageLength}
+use Rattle.writerimages.specs.WriterImage.{imageOf, stateOf, isImage}
 use Rattle.bytewriter.specs.Bytewise.{openBytes, addBytes, manyBytes, packBytes, closeBytes}
 use Rattle.calls.specs.Answers.{doneAnswer, laidAnswer, stopAnswer, refusal, sixteen}
 

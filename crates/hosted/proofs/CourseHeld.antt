@@ -17,7 +17,7 @@ use Rattle.course.specs.declared.Place.{Place}
 use Rattle.course.specs.declared.Place.the-variants.{Shut, At}
 use Rattle.course.specs.Course.{impossibleAfter}
 use Rattle.course.proofs.CourseLaws.{end-in-area, placed-end, begun}
-use Rattle.images.specs.Held.{heldLast, heldPlace}
+use Rattle.fields.specs.Widths.{heldLast, heldPlace}
 
 -- no system has more lines than 625
 pub lines-most : (system : ℕ) → systemOf system .lines ≤ 625

@@ -41,11 +41,13 @@ use Rattle.writer.specs.Batch.{batching}
 use Rattle.writer.specs.Packing.{packing}
 use Rattle.writer.specs.Closing.{closing}
 use Rattle.writer.proofs.Keeps.{open-keeps}
-use Rattle.images.specs.Fields.{bytesFor, settingsBytes}
-use Rattle.images.specs.Held.{HeldReader, HeldWriter, heldPlace, heldRest}
+use Rattle.fields.specs.Fields.{bytesFor, settingsBytes}
+use Rattle.images.specs.Held.{HeldReader}
+use Rattle.writerimages.specs.Held.{HeldWriter, heldRest}
+use Rattle.fields.specs.Widths.{heldPlace}
 use Rattle.images.specs.ReaderImage.{imageOf as readerImage, stateOf as readerOf, isImage as isReader}
-use Rattle.images.specs.WriterImage.{imageOf as writerImage, stateOf as writerOf, isImage as isWriter}
-use Rattle.images.specs.EventImage.{eventImage}
+use Rattle.writerimages.specs.WriterImage.{imageOf as writerImage, stateOf as writerOf, isImage as isWriter}
+use Rattle.events.specs.EventImage.{eventImage}
 use Rattle.calls.specs.Answers.{eventAnswer, reportAnswer, doneAnswer, laidAnswer, stopAnswer}
 use Rattle.calls.specs.Making.{makesReader, makesWriter}
 use Rattle.calls.specs.Reading.{Read, gave, reads, readsWithin}

@@ -1,7 +1,7 @@
 -- THE CALLS FROM C, proved: the statement is specs/Hosted.antt.
 -- Assumes nothing.
 use Rattle.images.proofs.ImageLaws as reader
-use Rattle.images.proofs.WriterLaws as writer
+use Rattle.writerimages.proofs.WriterLaws as writer
 use Rattle.hosted.specs.Hosted.{Hosted}
 use Rattle.hosted.proofs.ReadingCalls.{reads-by, reads-within-by}
 use Rattle.hosted.proofs.WritingCalls.{opens-by, adds-by, packs-by, closes-by, adds-many-by}

@@ -20,7 +20,7 @@ use Rattle.reader.specs.Reading.{Reply}
 use Rattle.reader.specs.Within.{Sliced}
 use Rattle.reader.proofs.AtCapacity.{never-2}
 use Rattle.demands.proofs.WithinCalls.{telling}
-use Rattle.images.specs.Frame.{imageLength}
+use Rattle.fields.specs.Frame.{imageLength}
 use Rattle.images.specs.ReaderImage.{imageOf, stateOf, isImage}
 use Rattle.images.proofs.ImageLaws.{state-image, image-given}
 use Rattle.bytereader.specs.Bytewise.{readBytes, withinBytes}

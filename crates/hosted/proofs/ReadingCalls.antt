@@ -15,10 +15,10 @@ use Rattle.reader.specs.declared.state.Reader.{Reader}
 use Rattle.reader.specs.declared.within.Report.the-variants.{Told}
 use Rattle.reader.specs.Reading.{Reply, reply, reading}
 use Rattle.reader.specs.Within.{Sliced, sliced, tells, within}
-use Rattle.images.specs.Frame.{imageLength}
+use Rattle.fields.specs.Frame.{imageLength}
 use Rattle.images.specs.Held.{HeldReader}
 use Rattle.images.specs.ReaderImage.{imageOf, isImage}
-use Rattle.images.specs.EventImage.{eventLength, eventImage}
+use Rattle.events.specs.EventImage.{eventLength, eventImage}
 use Rattle.images.proofs.ImageLaws.{state-image, image-given, image-length}
 use Rattle.bytereader.specs.Bytewise.{refusedOdd, readBytes, withinBytes}
 use Rattle.calls.specs.Answers.{eventAnswer, reportAnswer, refusal}

@@ -16,8 +16,8 @@ use Rattle.line.specs.Settings.{Held, small, noSettings}
 use Rattle.line.specs.Check.{low, settingsOf, lineFaults, lineFault, checkedFrom, checkedOf}
 use Rattle.line.proofs.SystemLaws.{fitting}
 use Rattle.line.proofs.CheckLaws.{check-rising}
-use Rattle.images.specs.Fields.{settingsFrom}
-use Rattle.images.proofs.FrameLaws.{settings-held}
+use Rattle.fields.specs.Fields.{settingsFrom}
+use Rattle.fields.proofs.FrameLaws.{settings-held}
 
 pub record Octets (t : Settings) : Type 0 where
   pub code-byte : small (t .code) ≡ true

@@ -22,10 +22,10 @@ use Rattle.writer.specs.State as states
 use Rattle.writer.specs.Answers.{Left, Added}
 use Rattle.writer.specs.Batch.{Batched}
 use Rattle.writer.proofs.Stays.{never-2}
-use Rattle.images.specs.Fields.{settingsFrom}
-use Rattle.images.specs.Frame.{imageLength}
-use Rattle.images.specs.WriterImage.{imageOf, stateOf, isImage}
-use Rattle.images.proofs.WriterLaws.{state-image, image-given}
+use Rattle.fields.specs.Fields.{settingsFrom}
+use Rattle.fields.specs.Frame.{imageLength}
+use Rattle.writerimages.specs.WriterImage.{imageOf, stateOf, isImage}
+use Rattle.writerimages.proofs.WriterLaws.{state-image, image-given}
 use Rattle.bytewriter.specs.Bytewise.{openBytes, addBytes, manyBytes, packBytes, closeBytes}
 use Rattle.calls.specs.Answers.{doneAnswer, laidAnswer, stopAnswer, sixteen}
 use Rattle.calls.specs.Making.{Made, made, makesWriter}

@@ -24,7 +24,8 @@ use Rattle.writer.specs.Packing.{packFault, packing}
 use Rattle.writer.specs.Closing.{closeFault, closing}
 use Rattle.writer.proofs.Refusals.{can-add}
 use Rattle.writer.proofs.Stays.{fresh-possible, open-possible, add-possible, pack-possible, close-possible}
-use Rattle.images.specs.Held.{HeldWriter, heldRest, four, two}
+use Rattle.fields.specs.Widths.{four, two}
+use Rattle.writerimages.specs.Held.{HeldWriter, heldRest}
 use Rattle.hosted.proofs.CourseHeld.{last-by, place-by}
 use Rattle.hosted.proofs.SettingsHeld.{Octets, zero-octets}
 

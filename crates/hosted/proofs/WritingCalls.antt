@@ -24,12 +24,12 @@ use Rattle.writer.specs.Adding.{addFault, adding}
 use Rattle.writer.specs.Batch.{Batched, batched, batching}
 use Rattle.writer.specs.Packing.{packFault, packing}
 use Rattle.writer.specs.Closing.{closeFault, closing}
-use Rattle.images.specs.Fields.{settingsBytes}
-use Rattle.images.specs.Frame.{imageLength}
-use Rattle.images.specs.Held.{HeldWriter}
-use Rattle.images.specs.WriterImage.{imageOf, isImage}
-use Rattle.images.proofs.FrameLaws.{length-settings, settings-back}
-use Rattle.images.proofs.WriterLaws.{state-image, image-given, image-length}
+use Rattle.fields.specs.Fields.{settingsBytes}
+use Rattle.fields.specs.Frame.{imageLength}
+use Rattle.writerimages.specs.Held.{HeldWriter}
+use Rattle.writerimages.specs.WriterImage.{imageOf, isImage}
+use Rattle.fields.proofs.FrameLaws.{length-settings, settings-back}
+use Rattle.writerimages.proofs.WriterLaws.{state-image, image-given, image-length}
 use Rattle.bytewriter.specs.Bytewise.{openBytes, addBytes, manyBytes, packBytes, closeBytes}
 use Rattle.calls.specs.Answers.{doneAnswer, laidAnswer, stopAnswer, refusal, sixteen}
 use Rattle.calls.specs.Writing.{settingsLength, wrote, opens, adds, packs, closes, wroteMany, addsMany}

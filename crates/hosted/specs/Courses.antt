@@ -7,7 +7,7 @@ use mathlib.Core.List.{List}
 use lib.ListN.{length}
 use Rattle.lists.specs.Lists.{each}
 use Rattle.line.specs.Settings.{small}
-use Rattle.images.specs.Frame.{imageLength}
+use Rattle.fields.specs.Frame.{imageLength}
 use Rattle.calls.specs.Making.{makesReader, makesWriter}
 use Rattle.calls.specs.Reading.{reads, readsWithin}
 use Rattle.calls.specs.Writing.{opens, adds, addsMany, packs, closes}

@@ -24,12 +24,14 @@ use Rattle.writer.specs.Adding.{adding}
 use Rattle.writer.specs.Batch.{batching}
 use Rattle.writer.specs.Packing.{packing}
 use Rattle.writer.specs.Closing.{closing}
-use Rattle.images.specs.Fields.{settingsBytes}
-use Rattle.images.specs.Frame.{imageLength}
-use Rattle.images.specs.Held.{HeldReader, HeldWriter, two}
+use Rattle.fields.specs.Fields.{settingsBytes}
+use Rattle.fields.specs.Frame.{imageLength}
+use Rattle.images.specs.Held.{HeldReader}
+use Rattle.writerimages.specs.Held.{HeldWriter}
+use Rattle.fields.specs.Widths.{two}
 use Rattle.images.specs.ReaderImage.{imageOf as readerImage, stateOf as readerOf, isImage as isReader}
-use Rattle.images.specs.WriterImage.{imageOf as writerImage, stateOf as writerOf, isImage as isWriter}
-use Rattle.images.specs.EventImage.{eventLength, eventImage}
+use Rattle.writerimages.specs.WriterImage.{imageOf as writerImage, stateOf as writerOf, isImage as isWriter}
+use Rattle.events.specs.EventImage.{eventLength, eventImage}
 use Rattle.calls.specs.Answers.{eventAnswer, reportAnswer, doneAnswer, laidAnswer, stopAnswer}
 use Rattle.calls.specs.Reading.{Read, gave, reads, readsWithin}
 use Rattle.calls.specs.Writing.{wrote, opens, adds, packs, closes, wroteMany, addsMany}

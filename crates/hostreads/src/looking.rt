@@ -1,5 +1,5 @@
 // A line checked, and the packets of its gap listed. No state is asked.
-use images::fields;
+use fields::numbers;
 use line::check::Checked;
 use linecheck::check;
 use packets::list;
@@ -48,7 +48,7 @@ pub fn check_line(system: u8, mode: u8, line: &[u8], header: &mut [u8]) -> u32
         return 1;
     }
     let t = c.settings;
-    fields::put_header(c.number, t, header);
+    numbers::put_header(c.number, t, header);
     c.fault as u32
 }
 
@@ -72,6 +72,6 @@ pub fn list_packets(system: u8, mode: u8, line: &[u8], out: &mut [u8], listed: &
         return 1;
     }
     octets::bytes_of(&flat[..m], out);
-    fields::put_four(x.packets, x.words, x.gap, x.stop as usize, listed);
+    numbers::put_four(x.packets, x.words, x.gap, x.stop as usize, listed);
     x.fault as u32
 }

@@ -5,8 +5,8 @@ use bytereader::Outcome;
 use bytereader::goes::Went;
 use calls::answers;
 use calls::early;
-use images::event_image;
-use images::fields;
+use events::event_image;
+use fields::numbers;
 use images::reader_image;
 use reader::state::Reader;
 use reader::within::Report;
@@ -14,9 +14,9 @@ ghost use mathlib.Core.Path.{_≡_};
 ghost use mathlib.Core.List.{_++_};
 ghost use lib.ListN.{length, take};
 ghost use Rattle.reader.specs.declared.within.Report.the-variants.{Told};
-ghost use Rattle.images.specs.Fields.{bytesFor};
+ghost use Rattle.fields.specs.Fields.{bytesFor};
 ghost use Rattle.images.specs.ReaderImage.{imageOf, moved};
-ghost use Rattle.images.specs.EventImage.{eventImage};
+ghost use Rattle.events.specs.EventImage.{eventImage};
 ghost use Rattle.bytereader.specs.Calls.{startBytes};
 ghost use Rattle.calls.specs.Answers.{eventAnswer, reportAnswer};
 ghost use Rattle.calls.specs.Reading.{gave, reads, readsWithin};
@@ -76,7 +76,7 @@ fn uncount(event: &mut [u8])
     requires { ⌜ length (now event) ≡ 32 ⌝ }
     ensures { λ _. ⌜ now (event .exit) ≡ take 24 (now (event .entry)) ++ bytesFor 8 0 ⌝ }
 {
-    fields::put_number(0, &mut event[24..32]);
+    numbers::put_number(0, &mut event[24..32]);
 }
 
 pub fn read_line(state: &mut [u8], line: &[u8], room: &mut [u8], event: &mut [u8]) -> u32

@@ -1,6 +1,6 @@
 // A writer made: its fresh state as an image.
-use images::writer_image;
 use writer::state;
+use writerimages::writer_image;
 ghost use mathlib.Core.Path.{_≡_};
 ghost use Rattle.calls.specs.Making.{made, makesWriter};
 

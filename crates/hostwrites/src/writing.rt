@@ -2,8 +2,8 @@
 use crate::arrays;
 use calls::answers;
 use calls::early;
-use images::fields;
-use images::writer_image;
+use fields::numbers;
+use writerimages::writer_image;
 ghost use mathlib.Core.Path.{_≡_};
 ghost use Rattle.calls.specs.Writing.{wrote, opens, adds, packs, closes, wroteMany, addsMany};
 
@@ -28,7 +28,7 @@ pub fn open_line(
     if n != 0 {
         return n;
     }
-    let t = fields::settings_of(&arrays::settings_in(settings));
+    let t = numbers::settings_of(&arrays::settings_in(settings));
     let x = bytewriter::opening::open_line(w, f, v, answers::sixteen(number), t, line);
     let answer = x.answer;
     let next = x.state;

@@ -7,7 +7,7 @@ use mir.Val.{Fits}
 use mir.Syntax.{w8, w16, w32, w64}
 use borrow.Author.Tests.{lt-ltb}
 use Rattle.line.specs.Settings.{small}
-use Rattle.images.specs.Held.{two, four, eight}
+use Rattle.fields.specs.Widths.{two, four, eight}
 
 pub fits-one : (n : ℕ) → Fits w8 n → small n ≡ true
 fits-one n f = lt-ltb _ _ (f .fits)

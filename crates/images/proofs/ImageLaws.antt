@@ -19,12 +19,13 @@ use Rattle.machine.specs.declared.phase.Phase.the-variants.{Idle, Kind, First, 
 use Rattle.course.specs.declared.Place.{Place}
 use Rattle.reader.specs.declared.state.Reader.{Reader}
 use Rattle.reader.specs.Reading.{becomes}
-use Rattle.images.specs.Fields.{bytesFor, numberFrom, settingsBytes}
-use Rattle.images.specs.Frame.{lastBytes, heldIn}
+use Rattle.fields.specs.Fields.{bytesFor, numberFrom, settingsBytes}
+use Rattle.fields.specs.Frame.{lastBytes, heldIn}
 use Rattle.images.specs.ReaderImage.{readerTag, markBytes, markBy, phaseByte, countBytes, phaseBytes, phaseBy, phaseIn, imageOf, stateOf, isImage, standBytes, moved}
-use Rattle.images.specs.Held.{eight, heldMark, heldPhase, HeldReader}
-use Rattle.images.proofs.NumberLaws.{length-bytes, number-bytes}
-use Rattle.images.proofs.FrameLaws.{FrameBack, frame-back, frame-held, length-framed, length-last, length-stand, frame-join, part-number}
+use Rattle.fields.specs.Widths.{eight}
+use Rattle.images.specs.Held.{heldMark, heldPhase, HeldReader}
+use Rattle.fields.proofs.NumberLaws.{length-bytes, number-bytes}
+use Rattle.fields.proofs.FrameLaws.{FrameBack, frame-back, frame-held, length-framed, length-last, length-stand, frame-join, part-number}
 
 -- ---- the phase
 length-mark : (m : Mark) → length (markBytes m) ≡ 2

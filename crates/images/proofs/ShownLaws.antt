@@ -3,47 +3,23 @@
 use mathlib.Core.Path.{_≡_, refl, sym, ap, ap₂, _∙_}
 use mathlib.Core.Bool.{Bool, true, false, _&&_}
 use mathlib.Core.List.{List, [], _∷_, _++_}
-use Prim.Native.Nat.{ℕ, zero, suc, _+_, _<_, _≤_, _^_}
+use Prim.Native.Nat.{ℕ, _+_, _<_, _^_}
 use native.Mathlib.Omega.{arith}
 use lib.Dec.{eqb}
-use lib.ListN.{length, getD, take, replicate}
-use lib.Seq.{drop-cons, take-all}
+use lib.ListN.{length, getD}
+use lib.Seq.{take-all}
 use borrow.Author.Tests.{eq-eqb}
 use Rattle.lists.specs.Lists.{part, same}
 use Rattle.lists.proofs.Lists.{part-add, length-part, eq-same}
 use Rattle.course.specs.declared.Last.{Last}
 use Rattle.course.specs.declared.Place.{Place}
 use Rattle.course.specs.Course.{placeOf}
-use Rattle.images.specs.Fields.{bytesFor, numberFrom, settingsBytes, settingsFrom}
-use Rattle.images.specs.Frame.{lastBytes, placeByte, framed, heldIn, showsFrame}
+use Rattle.fields.specs.Fields.{bytesFor, numberFrom, settingsBytes, settingsFrom}
+use Rattle.fields.specs.Frame.{lastBytes, placeByte, framed, heldIn, showsFrame}
 use Rattle.images.specs.ReaderImage.{countBytes}
-use Rattle.images.proofs.NumberLaws.{length-bytes, same-number}
-use Rattle.images.proofs.FrameLaws.{length-last}
-
--- ---- parts as elements
--- k elements from index a on
-abbrev pub upto : List ℕ → ℕ → ℕ → List ℕ
-upto b a zero = []
-upto b a (suc k) = getD b a 0 ∷ upto b (suc a) k
-
-pub part-upto : (b : List ℕ) (a k : ℕ) → a + k ≤ length b → part a k b ≡ upto b a k
-part-upto b a zero h = refl
-part-upto b a (suc k) h = ap (take (suc k)) (drop-cons b a 0 (omega arith)) ∙ ap (λ (l : List ℕ). getD b a 0 ∷ l) (part-upto b (suc a) k (omega arith))
-
--- ---- the test of equality by parts
-pub same-append : (xs ys zs ws : List ℕ) → length xs ≡ length ys → same (xs ++ zs) (ys ++ ws) ≡ (same xs ys && same zs ws)
-same-append [] [] zs ws e = refl
-same-append [] (y ∷ ys) zs ws e = absurd (omega (arith, e))
-same-append (x ∷ xs) [] zs ws e = absurd (omega (arith, e))
-same-append (x ∷ xs) (y ∷ ys) zs ws e = step (eqb x y) (same-append xs ys zs ws (omega (arith, e)))
-  where
-    step : (b : Bool) → same (xs ++ zs) (ys ++ ws) ≡ (same xs ys && same zs ws) → (b && same (xs ++ zs) (ys ++ ws)) ≡ ((b && same xs ys) && same zs ws)
-    step true h = h
-    step false h = refl
-
-pub and-one : (b : Bool) → (b && true) ≡ b
-and-one true = refl
-and-one false = refl
+use Rattle.fields.proofs.NumberLaws.{length-bytes, same-number}
+use Rattle.fields.proofs.FrameLaws.{length-last}
+use Rattle.fields.proofs.PartLaws.{part-upto, same-append}
 
 -- ---- the frame
 -- 80 bytes as fields
@@ -133,13 +109,6 @@ frame-shown tag l p kind held b long h =
     held-long : length (heldIn b) ≡ 21
     held-long = length-part 16 21 b (omega (arith, long))
 
--- ---- the last number
-pub last-shown : (b n : List ℕ) (l : Last) → 6 ≤ length b → getD n 0 0 ∷ getD n 1 0 ∷ getD n 2 0 ∷ [] ≡ lastBytes l
-    → (eqb (getD b 3 0) (getD n 0 0) && (eqb (getD b 4 0) (getD n 1 0) && eqb (getD b 5 0) (getD n 2 0))) ≡ same (part 3 3 b) (lastBytes l)
-last-shown b n l h e =
-    ap (λ (x : Bool). eqb (getD b 3 0) (getD n 0 0) && (eqb (getD b 4 0) (getD n 1 0) && x)) (sym (and-one (eqb (getD b 5 0) (getD n 2 0))))
-    ∙ ap₂ same (sym (part-upto b 3 3 h)) e
-
 -- ---- what is held of a reader's block
 pub held-shown : (b m : List ℕ) (x y z n j : ℕ) → length b ≡ 80 → length m ≡ 2 → getD m 0 0 ∷ getD m 1 0 ∷ countBytes x y z n j ≡ m ++ countBytes x y z n j
     → bytesFor 8 (numberFrom (part 21 8 b)) ≡ part 21 8 b → bytesFor 8 (numberFrom (part 29 8 b)) ≡ part 29 8 b → n < 256 ^ 8 → j < 256 ^ 8
@@ -158,33 +127,3 @@ held-shown b m x y z n j long h e p q ln lj =
     in
     sym (ap₂ same held (sym e)
     ∙ ap (λ (w : Bool). eqb (getD b 16 0) (getD m 0 0) && (eqb (getD b 17 0) (getD m 1 0) && (eqb (getD b 18 0) x && (eqb (getD b 19 0) y && (eqb (getD b 20 0) z && w))))) numbers)
-
--- ---- what is held of a writer's block and line
-pub seven-shown : (b x : List ℕ) → length b ≡ 80 → length x ≡ 7
-    → (eqb (getD b 16 0) (getD x 0 0) && (eqb (getD b 17 0) (getD x 1 0) && (eqb (getD b 18 0) (getD x 2 0) && (eqb (getD b 19 0) (getD x 3 0)
-    && (eqb (getD b 20 0) (getD x 4 0) && (eqb (getD b 21 0) (getD x 5 0) && eqb (getD b 22 0) (getD x 6 0)))))))
-    ≡ same (part 16 7 b) x
-seven-shown b x long h =
-    ap (λ (w : Bool). eqb (getD b 16 0) (getD x 0 0) && (eqb (getD b 17 0) (getD x 1 0) && (eqb (getD b 18 0) (getD x 2 0) && (eqb (getD b 19 0) (getD x 3 0)
-    && (eqb (getD b 20 0) (getD x 4 0) && (eqb (getD b 21 0) (getD x 5 0) && w)))))) (sym (and-one (eqb (getD b 22 0) (getD x 6 0))))
-    ∙ ap₂ same (sym (part-upto b 16 7 (omega (arith, long)))) (sym (part-upto x 0 7 (omega (arith, h))) ∙ take-all 7 x (omega (arith, h)))
-
-pub kept-shown : (b r : List ℕ) → length b ≡ 80 → length r ≡ 7 → bytesFor 4 (numberFrom (part 23 4 b)) ≡ part 23 4 b → bytesFor 2 (numberFrom (part 27 2 b)) ≡ part 27 2 b
-    → (same (part 16 7 b) r && same (part 29 8 b) (bytesFor 8 0)) ≡ same (heldIn b) (r ++ (bytesFor 4 (numberFrom (part 23 4 b)) ++ (bytesFor 2 (numberFrom (part 27 2 b)) ++ replicate 8 0)))
-unfolding heldIn bytesFor
-kept-shown b r long h p q =
-    let crc = bytesFor 4 (numberFrom (part 23 4 b)) in
-    let used = bytesFor 2 (numberFrom (part 27 2 b)) in
-    let zeros : List ℕ = replicate 8 0 in
-    let held : part 16 21 b ≡ part 16 7 b ++ (part 23 4 b ++ (part 27 2 b ++ part 29 8 b)) =
-    part-add 16 7 14 b ∙ ap (λ (x : List ℕ). part 16 7 b ++ x) (part-add 23 4 10 b ∙ ap (λ (x : List ℕ). part 23 4 b ++ x) (part-add 27 2 8 b))
-    in
-    let in-used : same (part 27 2 b ++ part 29 8 b) (used ++ zeros) ≡ (true && same (part 29 8 b) zeros) =
-    same-append (part 27 2 b) used (part 29 8 b) zeros (ap length (sym q)) ∙ ap (λ (x : Bool). x && same (part 29 8 b) zeros) (eq-same (part 27 2 b) used (sym q))
-    in
-    let in-crc : same (part 23 4 b ++ (part 27 2 b ++ part 29 8 b)) (crc ++ (used ++ zeros)) ≡ (true && (true && same (part 29 8 b) zeros)) =
-    same-append (part 23 4 b) crc (part 27 2 b ++ part 29 8 b) (used ++ zeros) (ap length (sym p)) ∙ ap₂ _&&_ (eq-same (part 23 4 b) crc (sym p)) in-used
-    in
-    sym (ap (λ (x : List ℕ). same x (r ++ (crc ++ (used ++ zeros)))) held
-    ∙ same-append (part 16 7 b) r (part 23 4 b ++ (part 27 2 b ++ part 29 8 b)) (crc ++ (used ++ zeros)) (length-part 16 7 b (omega (arith, long)) ∙ sym h)
-    ∙ ap (λ (x : Bool). same (part 16 7 b) r && x) in-crc)

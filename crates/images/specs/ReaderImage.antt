@@ -13,8 +13,8 @@ use Rattle.machine.specs.declared.phase.Mark.the-variants.{Typed, Nulled}
 use Rattle.machine.specs.declared.phase.Phase.{Phase}
 use Rattle.machine.specs.declared.phase.Phase.the-variants.{Idle, Kind, First, Second, Third, Fourth, Data}
 use Rattle.reader.specs.declared.state.Reader.{Reader}
-use Rattle.images.specs.Fields.{bytesFor, numberFrom, settingsFrom}
-use Rattle.images.specs.Frame.{placeByte, framed, lastIn, placeIn, heldIn}
+use Rattle.fields.specs.Fields.{bytesFor, numberFrom, settingsFrom}
+use Rattle.fields.specs.Frame.{placeByte, framed, lastIn, placeIn, heldIn}
 
 abbrev pub readerTag : ℕ
 readerTag = 0x52

@@ -1,8 +1,8 @@
 // The reader's state as 80 bytes, and back.
-use crate::fields;
-use crate::frame;
-use crate::joins;
 use course::Place;
+use fields::frame;
+use fields::joins;
+use fields::numbers;
 use machine::phase::Mark;
 use machine::phase::Phase;
 use reader::state::Reader;
@@ -13,7 +13,7 @@ ghost use lib.Dec.{eqb};
 ghost use lib.ListN.{length, getD};
 ghost use Rattle.lists.specs.Lists.{same};
 ghost use Rattle.lists.specs.Tests.{pick};
-ghost use Rattle.images.specs.Frame.{heldIn};
+ghost use Rattle.fields.specs.Frame.{heldIn};
 ghost use Rattle.images.specs.ReaderImage.{markBytes, markBy, phaseByte, countBytes, phaseBytes, phaseBy, phaseIn, imageOf, stateOf, isImage, standBytes, moved};
 ghost use Rattle.images.specs.Held.{HeldReader};
 
@@ -116,8 +116,8 @@ fn put_phase(phase: Phase, out: &mut [u8])
 {
     let x = counted_of(phase);
     let mark = x.mark;
-    joins::copy_bytes(&[mark[0], mark[1], x.b0, x.b1, x.b2], &mut out[..5]);
-    fields::put_eights(x.announced, x.collected, &mut out[5..21]);
+    joins::put_bytes(&[mark[0], mark[1], x.b0, x.b1, x.b2], &mut out[..5]);
+    numbers::put_eights(x.announced, x.collected, &mut out[5..21]);
 }
 
 // What a call on a begun line changes: the place and the phase.
@@ -185,8 +185,8 @@ fn phase_by(n: u8, mark: Mark, h: &[u8; 21]) -> Phase
     }
     if n == 6 {
         let all = &h[..];
-        let announced = fields::number_from(&all[5..13]);
-        let collected = fields::number_from(&all[13..21]);
+        let announced = numbers::number_in(&all[5..13]);
+        let collected = numbers::number_in(&all[13..21]);
         return Phase::Data {
             mark,
             announced,
@@ -219,8 +219,8 @@ fn shows_phase(phase: Phase, b: &[u8; 80]) -> bool
     let x = counted_of(phase);
     let mark = x.mark;
     let all = &b[..];
-    let announced = fields::number_from(&all[21..29]) == x.announced;
-    let collected = fields::number_from(&all[29..37]) == x.collected;
+    let announced = numbers::number_in(&all[21..29]) == x.announced;
+    let collected = numbers::number_in(&all[29..37]) == x.collected;
     let counts = (b[18] == x.b0) & ((b[19] == x.b1) & ((b[20] == x.b2) & (announced & collected)));
     (b[7] == phase_byte(phase)) & ((b[16] == mark[0]) & ((b[17] == mark[1]) & counts))
 }

@@ -4,7 +4,7 @@ use mathlib.Core.Path.{ap, _∙_}
 use Rattle.reader.specs.declared.within.Report.the-variants.{Told}
 use Rattle.reader.specs.declared.state.Told.{Told as Tale}
 use Rattle.images.specs.ReaderImage.{imageOf}
-use Rattle.images.specs.EventImage.{eventImage}
+use Rattle.events.specs.EventImage.{eventImage}
 use Rattle.calls.specs.Answers.{eventAnswer}
 use Rattle.calls.proofs.CallLaws.{filled}
 use borrow.Author.Needs.{needs}

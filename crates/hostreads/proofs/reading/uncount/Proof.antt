@@ -7,7 +7,7 @@ use native.Mathlib.Omega.{arith}
 use lib.ListN.{take, drop-of-length-le}
 use lib.Seq.{drop-drop}
 use Rattle.lists.proofs.Lists.{length-part}
-use Rattle.images.specs.Fields.{bytesFor}
+use Rattle.fields.specs.Fields.{bytesFor}
 use borrow.Author.Needs.{needs}
 use Rattle.hostreads.proofs.reading.uncount.Statement.{statement}
 use Rattle.hostreads.proofs.reading.uncount.Tie as tie

@@ -5,7 +5,7 @@ use mathlib.Core.List.{List}
 use Prim.Native.Nat.{ℕ}
 use borrow.Author.Tests.{eq-eqb, ne-eqb}
 use Rattle.lists.proofs.Tests.{pick-true, pick-false}
-use Rattle.images.specs.WriterImage.{imageOf}
+use Rattle.writerimages.specs.WriterImage.{imageOf}
 use Rattle.calls.specs.Making.{made, makesWriter}
 use Rattle.calls.proofs.CallLaws.{filled}
 use borrow.Author.Needs.{needs}

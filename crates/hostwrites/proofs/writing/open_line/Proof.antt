@@ -2,7 +2,7 @@
 use Rattle.lists.proofs.Needs.{need}
 use mathlib.Core.Path.{refl, ap, _∙_}
 use denote.Ref.{now}
-use Rattle.images.specs.Fields.{settingsFrom}
+use Rattle.fields.specs.Fields.{settingsFrom}
 use Rattle.writer.specs.Answers.{left}
 use Rattle.calls.specs.Writing.{opens}
 use Rattle.calls.proofs.CallLaws.{opening-call, wrong, away, made, filled, misfit, fit, as-long, opens-with}

@@ -15,7 +15,8 @@ use Rattle.course.specs.declared.Place.the-variants.{Shut, At}
 use Rattle.machine.specs.declared.phase.Mark.the-variants.{Typed, Nulled}
 use Rattle.machine.specs.declared.phase.Phase.{Phase}
 use Rattle.machine.specs.declared.phase.Phase.the-variants.{Idle, Kind, First, Second, Third, Fourth, Data}
-use Rattle.images.specs.Held.{heldLast, heldPlace, heldPhase}
+use Rattle.fields.specs.Widths.{heldLast, heldPlace}
+use Rattle.images.specs.Held.{heldPhase}
 use Rattle.images.proofs.HeldLaws.{fits-one, fits-two, fits-eight}
 use borrow.Author.Needs.{needs}
 use Rattle.images.proofs.reader_image.held_reader.Statement.{statement}

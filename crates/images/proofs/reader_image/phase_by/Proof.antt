@@ -3,9 +3,12 @@ use Rattle.lists.proofs.Needs.{need}
 use mathlib.Core.Path.{_≡_, refl, sym, ap, ap₂, _∙_}
 use mathlib.Core.List.{List}
 use Prim.Native.Nat.{ℕ, zero, suc}
+use native.Mathlib.Omega.{arith}
+use lib.ListN.{length}
 use Rattle.machine.specs.declared.phase.Mark.{Mark}
 use Rattle.machine.specs.declared.phase.Phase.the-variants.{Idle, Data}
 use Rattle.images.specs.ReaderImage.{phaseBy}
+use Rattle.fields.proofs.NumberLaws.{part-known}
 use borrow.Author.Needs.{needs}
 use Rattle.images.proofs.reader_image.phase_by.Statement.{statement}
 use Rattle.images.proofs.reader_image.phase_by.Tie as tie
@@ -35,7 +38,9 @@ returns-5 c = let a = c .before .before .before .before .before .before .before 
 returns-6 : tie.Need-returns-6
 returns-6 c =
     let a = c .before .before .before .before .before .before .before .before .before .before .before .args in
-    ap₂ (Data (a .mark)) (c .before .before .number-from .ensures .0) (c .number-from2 .ensures .0)
+    let h = a .h .now in
+    let long : length h ≡ 21 = search needs in
+    ap₂ (Data (a .mark)) (part-known 5 8 h _ (omega (arith, long)) (omega arith) (c .before .before .number-in .ensures) .0) (part-known 13 8 h _ (omega (arith, long)) (omega arith) (c .number-in2 .ensures) .0)
     ∙ sym (ap (λ (n : ℕ). phaseBy n (a .mark) (a .h .now)) (c .before .before .before .before .before .if6 .taken))
 
 returns-7 : tie.Need-returns-7
@@ -49,8 +54,8 @@ phase-by-spec =
     (need tie.Need-returns (λ c. search needs)) returns-2 (need tie.Need-element-copy-out-t10 (λ c. search needs)) returns-3
     (need tie.Need-element-copy-out-t13 (λ c. search needs)) (need tie.Need-element-copy-out-t16 (λ c. search needs)) returns-4
     (need tie.Need-element-copy-out-t19 (λ c. search needs)) (need tie.Need-element-copy-out-t22 (λ c. search needs))
-    (need tie.Need-element-copy-out-t25 (λ c. search needs)) returns-5 (need tie.Need-sub-number-from (λ c. search needs))
-    (need tie.Need-part-number-from-start (λ c. search needs)) (need tie.Need-part-number-from-end (λ c. search needs))
-    (need tie.Need-number-from-requires (λ c κs. search needs)) (need tie.Need-sub-number-from-2 (λ c. search needs))
-    (need tie.Need-part-number-from-start-2 (λ c. search needs)) (need tie.Need-part-number-from-end-2 (λ c. search needs))
-    (need tie.Need-number-from-requires-2 (λ c κs. search needs)) returns-6 returns-7)
+    (need tie.Need-element-copy-out-t25 (λ c. search needs)) returns-5 (need tie.Need-sub-number-in (λ c. search needs))
+    (need tie.Need-part-number-in-start (λ c. search needs)) (need tie.Need-part-number-in-end (λ c. search needs))
+    (need tie.Need-number-in-requires (λ c κs. search needs)) (need tie.Need-sub-number-in-2 (λ c. search needs))
+    (need tie.Need-part-number-in-start-2 (λ c. search needs)) (need tie.Need-part-number-in-end-2 (λ c. search needs))
+    (need tie.Need-number-in-requires-2 (λ c κs. search needs)) returns-6 returns-7)

@@ -4,7 +4,7 @@ use mathlib.Core.Path.{sym, _∙_}
 use borrow.Author.Tests.{eq-eqb, ne-eqb}
 use Rattle.lists.proofs.Tests.{pick-true, pick-false}
 use Rattle.images.specs.ReaderImage.{standBytes, moved}
-use Rattle.images.proofs.JoinLaws.{laid-mid}
+use Rattle.fields.proofs.JoinLaws.{laid-mid}
 use borrow.Author.Needs.{needs}
 use Rattle.images.proofs.reader_image.put_moved.Statement.{statement}
 use Rattle.images.proofs.reader_image.put_moved.Tie as tie

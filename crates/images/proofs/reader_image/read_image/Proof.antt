@@ -8,17 +8,13 @@ use Rattle.lists.specs.Lists.{same}
 use Rattle.course.specs.declared.Last.{Last}
 use Rattle.course.specs.declared.Place.{Place}
 use Rattle.machine.specs.declared.phase.Phase.{Phase}
-use Rattle.images.specs.Frame.{lastIn, placeIn, heldIn, showsFrame}
+use Rattle.fields.specs.Frame.{lastIn, placeIn, heldIn, showsFrame}
 use Rattle.images.specs.ReaderImage.{readerTag, phaseByte, phaseBytes, phaseIn, imageOf, stateOf, isImage}
 use Rattle.images.proofs.ImageLaws.{length-phase}
 use Rattle.images.proofs.ShownLaws.{frame-shown}
 use borrow.Author.Needs.{needs}
 use Rattle.images.proofs.reader_image.read_image.Statement.{statement}
 use Rattle.images.proofs.reader_image.read_image.Tie as tie
-
-shows-frame-requires : tie.Need-shows-frame-requires
-shows-frame-requires c κs =
-    c .before .before .settings-in .ensures .1
 
 shows-phase-requires : tie.Need-shows-phase-requires
 shows-phase-requires c κs =
@@ -42,4 +38,4 @@ returns c =
 pub read-image-spec : {M : Type 1} → statement M
 read-image-spec =
     tie.close (tie.spec
-    (need tie.Need-last-in-requires (λ c κs. search needs)) (need tie.Need-settings-in-requires (λ c κs. search needs)) (need tie.Need-place-in-requires (λ c κs. search needs)) (need tie.Need-phase-in-requires (λ c κs. search needs)) shows-frame-requires shows-phase-requires (need tie.Need-element-copy-out-t12 (λ c. search needs)) (need tie.Need-element-copy-out-t15 (λ c. search needs)) returns)
+    (need tie.Need-last-in-requires (λ c κs. search needs)) (need tie.Need-settings-in-requires (λ c κs. search needs)) (need tie.Need-place-in-requires (λ c κs. search needs)) (need tie.Need-phase-in-requires (λ c κs. search needs)) (need tie.Need-shows-frame-requires (λ c κs. search needs)) shows-phase-requires (need tie.Need-element-copy-out-t12 (λ c. search needs)) (need tie.Need-element-copy-out-t15 (λ c. search needs)) returns)

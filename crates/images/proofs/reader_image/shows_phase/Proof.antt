@@ -1,17 +1,16 @@
 -- `images::reader_image::shows_phase` meets its contract. Assumes nothing.
 use Rattle.lists.proofs.Needs.{need}
-use mathlib.Core.Path.{_≡_, sym, ap, ap₂, _∙_}
+use mathlib.Core.Path.{ap, ap₂, _∙_}
 use native.Mathlib.Omega.{arith}
 use mathlib.Core.Bool.{Bool, _&&_}
 use Prim.Native.Nat.{ℕ, _<_, _^_}
 use lib.Dec.{eqb}
 use lib.ListN.{getD}
-use Rattle.lists.specs.Lists.{part, same}
-use Rattle.lists.proofs.Lists.{length-part}
-use Rattle.images.specs.Fields.{bytesFor, numberFrom}
-use Rattle.images.specs.Frame.{heldIn}
+use Rattle.lists.specs.Lists.{same}
+use Rattle.fields.specs.Frame.{heldIn}
 use Rattle.images.specs.ReaderImage.{countBytes}
-use Rattle.images.proofs.JoinLaws.{two-of}
+use Rattle.fields.proofs.NumberLaws.{part-known}
+use Rattle.fields.proofs.JoinLaws.{two-of}
 use Rattle.images.proofs.ShownLaws.{held-shown}
 use borrow.Author.Needs.{needs}
 use Rattle.images.proofs.reader_image.shows_phase.Statement.{statement}
@@ -30,20 +29,18 @@ returns c =
     let b = g .b .now in
     let x = c .before .before .before .before .before .before .before .before .before .before .before .before .before .before .before .before .before .before .counted-of in
     let r = x .result in
-    let n = c .before .before .before .before .before .before .before .before .before .before .before .before .before .before .number-from in
-    let j = c .before .before .before .before .before .before .before .before .before .before .before .number-from2 in
     let long = c .before .before .before .before .before .before .before .before .before .before .before .before .before .before .before .before .before .before .before .pre in
+    let n = part-known 21 8 b _ (omega (arith, long)) (omega arith) (c .before .before .before .before .before .before .before .before .before .before .before .before .before .before .number-in .ensures) in
+    let j = part-known 29 8 b _ (omega (arith, long)) (omega arith) (c .before .before .before .before .before .before .before .before .before .before .before .number-in2 .ensures) in
     let (first-less, second-less) = fits (c .before .before .before .before .before .before .before .before .before .before .before .before .before .before .before .before .before .before) in
-    let first : bytesFor 8 (numberFrom (part 21 8 b)) ≡ part 21 8 b = ap₂ bytesFor (sym (length-part 21 8 b (omega (arith, long)))) (sym (n .ensures .0)) ∙ n .ensures .2 in
-    let second : bytesFor 8 (numberFrom (part 29 8 b)) ≡ part 29 8 b = ap₂ bytesFor (sym (length-part 29 8 b (omega (arith, long)))) (sym (j .ensures .0)) ∙ j .ensures .2 in
     let counts = countBytes (r .b0) (r .b1) (r .b2) (r .announced) (r .collected) in
     ap₂ (λ (u v : Bool). u && v) (ap (eqb (getD b 7 0)) (c .before .before .phase-byte .ensures))
     (ap₂ (λ (u v : ℕ). eqb (getD b 16 0) (getD (r .mark) 0 0) && (eqb (getD b 17 0) (getD (r .mark) 1 0) && (eqb (getD b 18 0) (r .b0) && (eqb (getD b 19 0) (r .b1) && (eqb (getD b 20 0) (r .b2) && (eqb u (r .announced) && eqb v (r .collected)))))))
-    (n .ensures .0) (j .ensures .0)
-    ∙ held-shown b (r .mark) (r .b0) (r .b1) (r .b2) (r .announced) (r .collected) long (x .ensures .1) (two-of (r .mark) counts (x .ensures .1)) first second first-less second-less
+    (n .0) (j .0)
+    ∙ held-shown b (r .mark) (r .b0) (r .b1) (r .b2) (r .announced) (r .collected) long (x .ensures .1) (two-of (r .mark) counts (x .ensures .1)) (n .2) (j .2) first-less second-less
     ∙ ap (same (heldIn b)) (x .ensures .0))
 
 pub shows-phase-spec : {M : Type 1} → statement M
 shows-phase-spec =
     tie.close (tie.spec
-    (need tie.Need-counted-of-requires (λ c κs. search needs)) (need tie.Need-sub-number-from (λ c. search needs)) (need tie.Need-part-number-from-start (λ c. search needs)) (need tie.Need-part-number-from-end (λ c. search needs)) (need tie.Need-number-from-requires (λ c κs. search needs)) (need tie.Need-sub-number-from-2 (λ c. search needs)) (need tie.Need-part-number-from-start-2 (λ c. search needs)) (need tie.Need-part-number-from-end-2 (λ c. search needs)) (need tie.Need-number-from-requires-2 (λ c κs. search needs)) (need tie.Need-element-copy-out-counts (λ c. search needs)) (need tie.Need-element-copy-out-counts-2 (λ c. search needs)) (need tie.Need-element-copy-out-counts-3 (λ c. search needs)) (need tie.Need-element-copy-out-result (λ c. search needs)) (need tie.Need-phase-byte-requires (λ c κs. search needs)) (need tie.Need-element-copy-out-result-2 (λ c. search needs)) (need tie.Need-array-read-result (λ c. search needs)) (need tie.Need-element-copy-out-result-3 (λ c. search needs)) (need tie.Need-array-read-result-2 (λ c. search needs)) returns)
+    (need tie.Need-counted-of-requires (λ c κs. search needs)) (need tie.Need-sub-number-in (λ c. search needs)) (need tie.Need-part-number-in-start (λ c. search needs)) (need tie.Need-part-number-in-end (λ c. search needs)) (need tie.Need-number-in-requires (λ c κs. search needs)) (need tie.Need-sub-number-in-2 (λ c. search needs)) (need tie.Need-part-number-in-start-2 (λ c. search needs)) (need tie.Need-part-number-in-end-2 (λ c. search needs)) (need tie.Need-number-in-requires-2 (λ c κs. search needs)) (need tie.Need-element-copy-out-counts (λ c. search needs)) (need tie.Need-element-copy-out-counts-2 (λ c. search needs)) (need tie.Need-element-copy-out-counts-3 (λ c. search needs)) (need tie.Need-element-copy-out-result (λ c. search needs)) (need tie.Need-phase-byte-requires (λ c κs. search needs)) (need tie.Need-element-copy-out-result-2 (λ c. search needs)) (need tie.Need-array-read-result (λ c. search needs)) (need tie.Need-element-copy-out-result-3 (λ c. search needs)) (need tie.Need-array-read-result-2 (λ c. search needs)) returns)

@@ -1,0 +1,4 @@
+pub mod NumberLaws
+pub mod JoinLaws
+pub mod PartLaws
+pub mod FrameLaws

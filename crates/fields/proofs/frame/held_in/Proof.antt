@@ -1,0 +1,17 @@
+-- `fields::frame::held_in` meets its contract. Assumes nothing.
+use Rattle.lists.proofs.Needs.{need}
+use Rattle.fields.specs.Frame.{heldIn}
+use borrow.Author.Needs.{needs}
+use Rattle.fields.proofs.frame.held_in.Statement.{statement}
+use Rattle.fields.proofs.frame.held_in.Tie as tie
+
+returns : tie.Need-returns
+unfolding heldIn
+returns c = c .before .copy-bytes .ensures
+
+pub held-in-spec : {M : Type 1} → statement M
+held-in-spec =
+    tie.close (tie.spec
+    (need tie.Need-sub-copy-bytes (λ c. search needs)) (need tie.Need-part-copy-bytes-start (λ c. search needs))
+    (need tie.Need-part-copy-bytes-end (λ c. search needs)) (need tie.Need-slice-aggregate-copy-bytes (λ c. search needs))
+    (need tie.Need-copy-bytes-requires (λ c κs. search needs)) returns)

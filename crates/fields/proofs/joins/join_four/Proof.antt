@@ -1,0 +1,31 @@
+-- `fields::joins::join_four` meets its contract. Assumes nothing.
+use Rattle.lists.proofs.Needs.{need}
+use mathlib.Core.Path.{sym}
+use mathlib.Core.List.{_++_}
+use Prim.Native.Nat.{_+_}
+use native.Mathlib.Omega.{arith}
+use lib.Seq.{length-take-le}
+use denote.Ref.{now}
+use Rattle.fields.proofs.JoinLaws.{joined}
+use borrow.Author.Needs.{needs}
+use Rattle.fields.proofs.joins.join_four.Statement.{statement}
+use Rattle.fields.proofs.joins.join_four.Tie as tie
+
+slice-aggregate-copy-bytes : tie.Need-slice-aggregate-copy-bytes
+slice-aggregate-copy-bytes c = sym (length-take-le _ _ (omega (arith, c .before .before .before .before .before .before .pre)))
+
+copy-bytes-requires : tie.Need-copy-bytes-requires
+copy-bytes-requires c κs = sym (length-take-le _ _ (omega (arith, c .before .before .before .before .before .before .pre)))
+
+returns : tie.Need-returns
+returns c =
+    let a = c .before .before .before .before .before .before .before .before .before .before .before .before .before .args in
+    joined (now (a .a)) (now (a .b) ++ (now (a .c) ++ now (a .d))) (now (a .out)) _ _ (c .before .before .before .before .before .before .copy-bytes .ensures) (c .before .before .join-three .ensures)
+
+pub join-four-spec : {M : Type 1} → statement M
+join-four-spec =
+    tie.close (tie.spec
+    (need tie.Need-slice-relend-prefix-copy-bytes (λ c. search needs)) slice-aggregate-copy-bytes copy-bytes-requires
+    (need tie.Need-sub-join-three (λ c. search needs)) (need tie.Need-part-join-three-start (λ c. search needs))
+    (need tie.Need-part-join-three-end (λ c. search needs)) (need tie.Need-join-three-requires (λ c κs. search needs))
+    (need tie.Need-same-length (λ c. search needs)) returns)

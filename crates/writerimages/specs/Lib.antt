@@ -1,0 +1,2 @@
+pub mod WriterImage
+pub mod Held
