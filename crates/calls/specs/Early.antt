@@ -1,4 +1,4 @@
--- 1 and 2 of a call, by the state and the numbers of bytes. Only the promises of private functions cite this.
+-- 1 and 2 of a call, by the state and the numbers of bytes. No promise of a call from C cites this; those of `calls::early` do.
 -- Assumes nothing.
 use Prim.Native.Nat.{ℕ, _/_, _%_}
 use mathlib.Core.Bool.{Bool, _&&_}
