@@ -1,7 +1,7 @@
 // The words of a block, laid into a lent part: of a variable block, which is six words, the values and one word more, from any of them on;
 // of a fixed block, which is one word and the values, all.
 use crate::fill;
-use words::crc;
+use sums::crc;
 ghost use mathlib.Core.Path.{_≡_};
 ghost use mathlib.Core.List.{[], _∷_, _++_, map};
 ghost use Prim.Native.Nat.{_+_, _/_, _%_, _≤_};

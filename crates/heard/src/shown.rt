@@ -7,8 +7,8 @@ use crate::out;
 use crate::steps;
 use crate::steps::Step;
 use line::header;
-use words::checksum;
-use words::crc;
+use sums::checksum;
+use sums::crc;
 
 // `Room INDEX COUNT KIND SEED`: words of the room, the kind as in made.rt.
 fn make(ns: &[u64], room: &mut [u16]) {

@@ -50,8 +50,8 @@ fn lay_crc(words: [u16; 53], a: usize, e: usize) -> [u16; 53]
     requires { ⌜ (length words ≡ 53) × (a ≤ e) × (e + 2 ≤ 53) ⌝ }
     ensures { λ r. ⌜ Laid e (crcWords (part a (e - a) words)) words r ⌝ }
 {
-    let c = words::crc::crc_of(words::crc::CRC_START, &words[a..e]);
-    lay_words(words, e, &words::crc::crc_words(c))
+    let c = sums::crc::crc_of(sums::crc::CRC_START, &words[a..e]);
+    lay_words(words, e, &sums::crc::crc_words(c))
 }
 
 // The 53 header words.
@@ -75,6 +75,6 @@ pub fn header_words(number: u16, settings: Settings) -> [u16; 53]
     let o7 = lay_bytes(o6, 43, &[s.block, s.flag]);
     let o8 = lay_bytes(o7, 45, &reserved);
     let o9 = lay_crc(o8, 10, 50);
-    let sum = words::checksum::checksum_of(&o9[3..52]);
+    let sum = sums::checksum::checksum_of(&o9[3..52]);
     lay_words(o9, 52, &[sum])
 }

@@ -84,8 +84,8 @@ fn end_stands(flag: u8, area: &[u16], end: &[u16]) -> bool
     if flag != 1 {
         return lists::same_words(end, &[0u16; 0]);
     }
-    let c = words::crc::crc_of(words::crc::CRC_START, area);
-    lists::same_words(end, &words::crc::crc_words(c))
+    let c = sums::crc::crc_of(sums::crc::CRC_START, area);
+    lists::same_words(end, &sums::crc::crc_words(c))
 }
 
 // The lowest of 15 and 16 that holds of an area and what stands behind it, or 0.

@@ -86,9 +86,9 @@ fn crc_stands(line: &[u16], a: usize, e: usize) -> bool
     requires { ⌜ (a ≤ e) × (e + 2 ≤ length (now line)) ⌝ }
     ensures { λ r. ⌜ r ≡ same (part e 2 (now (line .entry))) (crcWords (part a (e - a) (now (line .entry)))) ⌝ }
 {
-    let c = words::crc::crc_of(words::crc::CRC_START, &line[a..e]);
+    let c = sums::crc::crc_of(sums::crc::CRC_START, &line[a..e]);
     let end = e + 2;
-    lists::same_words(&line[e..end], &words::crc::crc_words(c))
+    lists::same_words(&line[e..end], &sums::crc::crc_words(c))
 }
 
 // The number is 1..N, and B7-B2 of its second word are 0.
@@ -106,7 +106,7 @@ fn words_fault(s: System, line: &[u16]) -> u8
     requires { ⌜ 57 ≤ length (now line) ⌝ }
     ensures { λ r. ⌜ r ≡ lowestOf (drop 2 (headFaults s (now (line .entry)))) ⌝ }
 {
-    let sum = words::checksum::checksum_of(&line[7..56]);
+    let sum = sums::checksum::checksum_of(&line[7..56]);
     let r9 = lists::or_else(!is_numbered(s.lines, line), 9, 0);
     let r8 = lists::or_else(!crc_stands(line, 14, 54), 8, r9);
     let r7 = lists::or_else(!crc_stands(line, 7, 12), 7, r8);

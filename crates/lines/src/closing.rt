@@ -5,7 +5,7 @@ use course::Place;
 use line::check;
 use line::systems;
 use line::systems::System;
-use words::crc;
+use sums::crc;
 use writer::adding;
 use writer::state;
 use writer::state::Answer;

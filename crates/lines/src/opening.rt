@@ -6,7 +6,7 @@ use line::check;
 use line::settings;
 use line::settings::Settings;
 use line::systems;
-use words::crc;
+use sums::crc;
 use writer::state;
 use writer::state::Answer;
 use writer::state::Writer;

@@ -6,7 +6,7 @@ mod asked; // asked.rt: the words of the command line
 
 use asked::Asked;
 use libc::STDOUT_FILENO;
-use words::crc;
+use sums::crc;
 use writer::state;
 
 fn write_all(a: Asked, batch: &mut [u16]) {

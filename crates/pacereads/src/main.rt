@@ -7,7 +7,7 @@ mod reads; // reads.rt: lines read or checked
 use asked::Asked;
 use libc::STDIN_FILENO;
 use libc::STDOUT_FILENO;
-use words::crc;
+use sums::crc;
 
 // What is asked, and its row.
 fn run(a: Asked, batch: &[u16; 13728], room: &mut [u16; 16384]) {

@@ -1,6 +1,6 @@
 // One packet: what stands at the front of the words that are lent, and the words of a packet, laid.
 use crate::fill;
-use words::checksum;
+use sums::checksum;
 use words::forms;
 ghost use mathlib.Core.Path.{_≡_};
 ghost use mathlib.Core.List.{[], _∷_, _++_};

@@ -5,7 +5,7 @@ use libc::STDOUT_FILENO;
 use line::settings::Settings;
 use lines::closing;
 use lines::opening;
-use words::crc;
+use sums::crc;
 use writer::adding;
 use writer::state;
 use writer::state::Answer;

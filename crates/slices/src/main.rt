@@ -6,7 +6,7 @@ mod rounds; // rounds.rt: eight lines read in slices
 
 use libc::STDIN_FILENO;
 use libc::STDOUT_FILENO;
-use words::crc;
+use sums::crc;
 
 fn main() {
     let mut bytes = [0u8; 27456];

@@ -6,5 +6,3 @@ pub mod SumLaws
 pub mod CrcLaws
 pub mod Shifts
 pub mod PolynomialLaws
-pub mod Folds
-pub mod Gather

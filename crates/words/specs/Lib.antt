@@ -6,4 +6,3 @@ pub mod Checksum
 pub mod Crc
 pub mod Shifts
 pub mod Polynomial
-pub mod Folds

@@ -4,7 +4,7 @@ use course::Place;
 use line::settings;
 use line::settings::Settings;
 use packets::list;
-use words::crc;
+use sums::crc;
 ghost use mathlib.Core.Path.{_≡_};
 ghost use mathlib.Core.Bool.{_||_};
 ghost use Rattle.writer.specs.State.{isPart, laidOf, fresh, misshapen, overlong, overfull, impossible, endIn, moved};
