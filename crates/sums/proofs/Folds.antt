@@ -3,17 +3,21 @@
 -- Assumes nothing.
 use mathlib.Core.Path.{_≡_, refl, sym, ap, ap₂, _∙_}
 use mathlib.Core.List.{List, [], _∷_}
-use Prim.Native.Nat.{ℕ, _+_, _*_, _^_, _<_}
-use native.Mathlib.Nat.{add-comm}
+use Prim.Native.Nat.{ℕ, _+_, _*_, _^_, _<_, _≤_}
+use native.Mathlib.Nat.{add-comm, lt-of-lt-of-le}
 use native.Mathlib.Omega.{arith}
-use lib.Dec.{lit<}
-use lib.Bits.{bitXor, xor-comm, xor-zero-r, xor-zero-l}
-use lib.ListN.{length, replicate, length-replicate}
+use lib.Dec.{T, eqb, lit<}
+use lib.Pow.{pow-mono, shl-lt}
+use lib.Bits.{bitXor, xor-lt, xor-comm, xor-zero-r, xor-zero-l}
+use lib.ListN.{length, replicate, drop, length-replicate, length-drop}
+use lib.Seq.{take-all}
+use Rattle.lists.specs.Lists.{part}
+use Rattle.lists.proofs.Tests.{all}
 use Rattle.words.specs.Crc.{crcOf}
 use Rattle.words.specs.Shifts.{quiet}
 use Rattle.sums.specs.Folds.{still, Folds}
 use Rattle.words.proofs.Xor.{xor-assoc, xor-back, Linear, linear-self, linear-shl, linear-xor, agree-below}
-use Rattle.words.proofs.CrcLaws.{crc-fillers, crc-linear, crc-lt, xorWords}
+use Rattle.words.proofs.CrcLaws.{crc-fillers, crc-linear, crc-lt, crc-turn, xorWords}
 use Rattle.words.proofs.Shifts.{quiet-linear}
 
 -- ---- words that are 0
@@ -22,7 +26,7 @@ xor-zeros [] = refl
 xor-zeros (w ∷ ws) = ap₂ {B = List ℕ} (λ (x : ℕ) (l : List ℕ). x ∷ l) (xor-zero-r w) (xor-zeros ws)
 
 -- a register beside the words
-crc-split : (c d : ℕ) (ws : List ℕ) → crcOf (bitXor c d) ws ≡ bitXor (crcOf c ws) (still (length ws) d)
+pub crc-split : (c d : ℕ) (ws : List ℕ) → crcOf (bitXor c d) ws ≡ bitXor (crcOf c ws) (still (length ws) d)
 crc-split c d ws =
     ap (crcOf (bitXor c d)) (sym (xor-zeros ws)) ∙ crc-linear c d ws (replicate (length ws) 0) (sym (length-replicate (length ws) 0))
 
@@ -80,19 +84,39 @@ folds-152 = folds-twice (folds-twice folds-38)
 pub folds-304 : Folds 304 152 128
 folds-304 = folds-twice folds-152
 
--- ---- 156 words of filler: by linearity what they do to a register and what they are
-abbrev far : ℕ → ℕ
-far c = bitXor (bitXor (c * 2 ^ 35) (c * 2 ^ 12)) (c * 2 ^ 3)
+-- ---- many bits that are 0 at one step: what they do is what three parts of sixty do together, where it is so at each bit of the register
+module _ (i j k : ℕ) where
+  abbrev pub far : ℕ → ℕ
+  far c = bitXor (bitXor (c * 2 ^ i) (c * 2 ^ j)) (c * 2 ^ k)
 
-far-linear : Linear far
-far-linear = linear-xor (linear-xor (linear-shl 35 linear-self) (linear-shl 12 linear-self)) (linear-shl 3 linear-self)
+  far-linear : Linear far
+  far-linear = linear-xor (linear-xor (linear-shl i linear-self) (linear-shl j linear-self)) (linear-shl k linear-self)
 
-far-is : (c : ℕ) → c < 2 ^ 18 → quiet 60 (far c) ≡ still 156 c
+  far-is : (n : ℕ) → T (all 18 (λ b. eqb (quiet 60 (far (2 ^ b))) (still n (2 ^ b)))) → (c : ℕ) → c < 2 ^ 18 → quiet 60 (far c) ≡ still n c
+  far-is n =
+      agree-below (λ c. quiet 60 (far c)) (still n)
+      (record { splits = λ a b. ap (quiet 60) (far-linear .splits a b) ∙ quiet-linear 60 .splits (far a) (far b) }) (still-linear n) 18
+
+  pub far-fits : (c : ℕ) → c < 2 ^ 18 → i ≤ 42 → j ≤ 42 → k ≤ 42 → far c < 2 ^ 60
+  far-fits c h hi hj hk =
+      let one : (m : ℕ) → m ≤ 42 → c * 2 ^ m < 2 ^ 60 = λ m hm. lt-of-lt-of-le (shl-lt 18 m h) (pow-mono {i = 18 + m} {j = 60} (omega arith)) in
+      xor-lt 60 _ _ (xor-lt 60 _ _ (one i hi) (one j hj)) (one k hk)
+
+-- 156 words of filler: what they do to a register, and what they are
+pub far-fillers : (c : ℕ) → c < 2 ^ 18 → bitXor (quiet 60 (far 35 12 3 c)) 0x314c3 ≡ crcOf c (replicate 156 0x200)
 unfolding crcOf quiet
-far-is =
-    agree-below (λ c. quiet 60 (far c)) (still 156)
-    (record { splits = λ a b. ap (quiet 60) (far-linear .splits a b) ∙ quiet-linear 60 .splits (far a) (far b) }) (still-linear 156) 18 tt
+far-fillers c h = ap (λ (x : ℕ). bitXor x 0x314c3) (far-is 35 12 3 156 tt c h) ∙ xor-comm (still 156 c) 0x314c3 ∙ sym (crc-from c (replicate 156 0x200))
 
-pub far-fillers : (c : ℕ) → c < 2 ^ 18 → bitXor (quiet 60 (far c)) 0x314c3 ≡ crcOf c (replicate 156 0x200)
-unfolding crcOf
-far-fillers c h = ap (λ (x : ℕ). bitXor x 0x314c3) (far-is c h) ∙ xor-comm (still 156 c) 0x314c3 ∙ sym (crc-from c (replicate 156 0x200))
+-- eighteen words, by three times six from 0
+pub eighteen-is : (c : ℕ) → c < 2 ^ 18 → quiet 60 (far 23 18 12 c) ≡ still 18 c
+unfolding crcOf quiet
+eighteen-is = far-is 23 18 12 18 tt
+
+pub eighteen : (c a b own x : ℕ) (s : List ℕ) → c < 2 ^ 18 → length s ≡ 18 → a ≡ crcOf 0 (part 0 6 s) → b ≡ crcOf a (part 6 6 s) → own ≡ crcOf b (part 12 6 s)
+    → x ≡ quiet 60 (far 23 18 12 c) → bitXor own x ≡ crcOf c s
+eighteen c a b own x s below long ea eb eo ex =
+    let first = crc-turn (crcOf 0 s) 0 a 0 6 s ea refl .1 in
+    let second = crc-turn (crcOf 0 s) a b 6 6 s eb first .1 in
+    let n = length-drop 12 s in
+    ap₂ bitXor (eo ∙ ap (crcOf b) (take-all 6 (drop 12 s) (omega arith)) ∙ second) (ex ∙ eighteen-is c below ∙ ap (λ (k : ℕ). still k c) (sym long))
+    ∙ sym (crc-from c s)

@@ -23,10 +23,10 @@ use Rattle.words.specs.Shifts.{packed}
 use Rattle.sums.proofs.Folds.{crc-from, still-linear, together}
 
 -- ---- one word more, and four at once
-one-more : (k : ℕ) (l : List ℕ) → k < length l → crcOf 0 (take (suc k) l) ≡ crcOf (crcOf 0 (take k l)) (getD l k 0 ∷ [])
+pub one-more : (k : ℕ) (l : List ℕ) → k < length l → crcOf 0 (take (suc k) l) ≡ crcOf (crcOf 0 (take k l)) (getD l k 0 ∷ [])
 one-more k l h = ap (crcOf 0) (take-suc l k 0 h) ∙ crc-append 0 (take k l) (getD l k 0 ∷ [])
 
-two-at-once : (p q v w : ℕ) → bitXor (crcOf p (v ∷ [])) (crcOf q (w ∷ [])) ≡ crcOf (bitXor p q) (bitXor v w ∷ [])
+pub two-at-once : (p q v w : ℕ) → bitXor (crcOf p (v ∷ [])) (crcOf q (w ∷ [])) ≡ crcOf (bitXor p q) (bitXor v w ∷ [])
 two-at-once p q v w = sym (crc-linear p q (v ∷ []) (w ∷ []) refl)
 
 abbrev four : ℕ → ℕ → ℕ → ℕ → ℕ

@@ -2,7 +2,7 @@
 -- Assumes nothing.
 use mathlib.Core.Path.{_≡_}
 use mathlib.Core.List.{List}
-use Prim.Native.Nat.{ℕ, _+_, _^_, _<_}
+use Prim.Native.Nat.{ℕ, _+_, _-_, _^_, _<_}
 use lib.Bits.{bitXor}
 use lib.ListN.{length, replicate, take, drop}
 use Rattle.lists.specs.Lists.{part}
@@ -31,3 +31,9 @@ pub record Gathered (z a b : ℕ) (s before f : List ℕ) (i : ℕ) : Type 0 whe
 -- the register after the first n words of s, xored with those of f, with those from a on and with those from b on
 abbrev pub mixed : ℕ → ℕ → ℕ → List ℕ → List ℕ → ℕ
 mixed a b n s f = bitXor (bitXor (bitXor (crcOf 0 (take n s)) (crcOf 0 (part a n f))) (crcOf 0 (part b n f))) (crcOf 0 (take n f))
+
+-- the first i words are xored into f, which was before, a places further on: the first a are as before, and the CRC has that of the i words besides, taken on from there
+pub record Xored (a : ℕ) (before f : List ℕ) (i : ℕ) : Type 0 where
+  pub long : length f ≡ length before
+  pub front : take a f ≡ take a before
+  pub sum : crcOf 0 f ≡ bitXor (crcOf 0 before) (still (length before - (a + i)) (crcOf 0 (take i before)))

@@ -6,7 +6,7 @@ ghost use mathlib.Core.Path.{_≡_};
 ghost use Prim.Native.Nat.{_+_, _-_, _*_, _%_, _^_, _<_, _≤_};
 ghost use lib.ListN.{length, replicate, drop};
 ghost use Rattle.words.specs.Shifts.{fed, quiet, packed};
-ghost use Rattle.sums.specs.Folds.{Folds, Gathered, held, mixed};
+ghost use Rattle.sums.specs.Folds.{Folds, Gathered, Xored, held, mixed};
 ghost use Rattle.words.specs.Crc.{crcBits, crcOf, registerWords, lowBits};
 
 // The register before any word: all ones.
@@ -121,6 +121,34 @@ fn crc_short(c: u32, s: &[u16]) -> u32
     crc_rest(x, &s[i..])
 }
 
+// The register after eighteen words. Their own register, from 0, does not wait for c; and c goes on over 180 bits at one step: so many bits that are 0 do
+// what 37, 42 and 48 of them do together, which all are parts of sixty.
+fn crc_eighteen(c: u32, s: &[u16]) -> u32
+    requires { ⌜ (c < 2 ^ 18) × (length (now s) ≡ 18) ⌝ }
+    ensures { λ r. ⌜ r ≡ crcOf c (now (s .entry)) ⌝ }
+{
+    let w = c as u64;
+    let a = crc_six(0, &s[0..6]);
+    let b = crc_six(a, &s[6..12]);
+    let own = crc_six(b, &s[12..18]);
+    own ^ after_sixty((w * 0x800000) ^ (w * 0x40000) ^ (w * 0x1000))
+}
+
+// The register after the words: eighteen at a time, then what is left.
+fn crc_folded(c: u32, s: &[u16]) -> u32
+    requires { ⌜ c < 2 ^ 18 ⌝ }
+    ensures { λ r. ⌜ r ≡ crcOf c (now (s .entry)) ⌝ }
+{
+    let mut x = c;
+    let mut i = 0;
+    while 18 <= s.len() - i {
+        let e = i + 18;
+        x = crc_eighteen(x, &s[i..e]);
+        i = e;
+    }
+    crc_short(x, &s[i..])
+}
+
 // The words of s go behind the first z words of f, each xored with those that stand z, z - a and z - b places before it.
 fn gather(z: usize, a: usize, b: usize, s: &[u16], f: &mut [u16])
     requires { ⌜ Folds z a b × (length (now s) + z ≤ length (now f)) ⌝ }
@@ -155,7 +183,30 @@ fn fold(z: usize, a: usize, b: usize, s: &[u16], f: &mut [u16], y: &mut [u16])
     mix(a, b, &s[m..], &f[m..], y);
 }
 
-// The register after 304 to 1,920 words, which become 304 and then 152. The register c stands before them as two words.
+// Each of the first n words is xored into the word a places further on; n is at most a, so that none of them changes on the way.
+fn onto(a: usize, n: usize, f: &mut [u16])
+    requires { ⌜ (n ≤ a) × (a + n ≤ length (now f)) ⌝ }
+    ensures { λ r. ⌜ Xored a (now (f .entry)) (now (f .exit)) n ⌝ }
+{
+    let mut i = 0;
+    while i < n {
+        f[i + a] = f[i + a] ^ f[i];
+        i += 1;
+    }
+}
+
+// The first n words go a, b and z places further on, all three: the words behind them have the CRC of all.
+fn moved(n: usize, a: usize, b: usize, z: usize, f: &mut [u16])
+    requires { ⌜ Folds z (z - a) (z - b) × ((n ≤ a) × ((n ≤ b) × ((a ≤ z) × ((b ≤ z) × (z + n ≤ length (now f)))))) ⌝ }
+    ensures { λ r. ⌜ crcOf 0 (drop n (now (f .exit))) ≡ crcOf 0 (now (f .entry)) ⌝ }
+{
+    onto(a, n, f);
+    onto(b, n, f);
+    onto(z, n, f);
+}
+
+// The register after 304 to 1,920 words, which become 304; of those the first 76 and then 76 more go on to the last 152. The register c stands before the
+// words as two words.
 fn crc_long(c: u32, s: &[u16]) -> u32
     requires { ⌜ (c < 2 ^ 18) × ((304 ≤ length (now s)) × (length (now s) ≤ 1920)) ⌝ }
     ensures { λ r. ⌜ r ≡ crcOf c (now (s .entry)) ⌝ }
@@ -165,10 +216,9 @@ fn crc_long(c: u32, s: &[u16]) -> u32
     f[1] = (c / 1024) as u16;
     let mut y = [0u16; 304];
     fold(304, 152, 128, s, &mut f, &mut y);
-    let mut g = [0u16; 456];
-    let mut t = [0u16; 152];
-    fold(152, 76, 64, &y, &mut g, &mut t);
-    crc_short(0, &t)
+    moved(76, 76, 88, 152, &mut y);
+    moved(76, 76, 88, 152, &mut y[76..304]);
+    crc_folded(0, &y[152..304])
 }
 
 // The register after any number of words, 1,920 at a turn.

@@ -99,7 +99,7 @@ linear-mod k {f} l = record { splits = λ a b. ap (λ (x : ℕ). x % 2 ^ k) (l .
 pub linear-xor : {f g : ℕ → ℕ} → Linear f → Linear g → Linear (λ x. bitXor (f x) (g x))
 linear-xor {f} {g} l m = record { splits = λ a b. ap₂ bitXor (l .splits a b) (m .splits a b) ∙ xor-cross (f a) (f b) (g a) (g b) }
 
-linear-zero : (f : ℕ → ℕ) → Linear f → f 0 ≡ 0
+pub linear-zero : (f : ℕ → ℕ) → Linear f → f 0 ≡ 0
 linear-zero f l = xor-cancel (f 0) 0 (f 0) (sym (l .splits 0 0))
 
 -- the top digit and the rest

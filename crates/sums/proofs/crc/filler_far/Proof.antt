@@ -3,11 +3,11 @@ use Rattle.lists.proofs.Needs.{need}
 use mathlib.Core.Path.{_≡_, refl, sym, ap, _∙_}
 use Prim.Native.Nat.{ℕ, _+_, _-_, _*_, _^_, _<_}
 use native.Mathlib.Omega.{arith}
-use lib.Bits.{bitXor, xor-lt}
+use lib.Bits.{bitXor}
 use lib.ListN.{replicate}
 use Rattle.words.specs.Crc.{crcOf}
 use Rattle.words.proofs.CrcLaws.{crc-none, filler-turn}
-use Rattle.sums.proofs.Folds.{far-fillers}
+use Rattle.sums.proofs.Folds.{far-fits, far-fillers}
 use borrow.Author.Needs.{needs}
 use Rattle.sums.proofs.crc.filler_far.Statement.{statement}
 use Rattle.sums.proofs.crc.filler_far.Tie as tie
@@ -23,12 +23,8 @@ loop-holds c = (c .pre, refl)
 
 after-sixty-requires : tie.Need-after-sixty-requires Inv-loop μ-loop
 after-sixty-requires c κs =
-    let x = c .before .loop .x in
-    let h = c .before .loop .inv .0 in
-    let p : x * 2 ^ 35 < 2 ^ 60 = omega arith in
-    let q : x * 2 ^ 12 < 2 ^ 60 = omega arith in
-    let r : x * 2 ^ 3 < 2 ^ 60 = omega arith in
-    xor-lt 60 _ _ (xor-lt 60 _ _ p q) r
+    let l = c .before .loop in
+    far-fits 35 12 3 (l .x) (l .inv .0) (omega arith) (omega arith) (omega arith)
 
 loop-again : tie.Need-loop-again Inv-loop μ-loop
 loop-again c =
