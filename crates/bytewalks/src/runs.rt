@@ -5,7 +5,6 @@ use machine::phase::Phase;
 use machine::runs;
 use machine::runs::Ran;
 ghost use mathlib.Core.Path.{_≡_};
-ghost use mathlib.Core.Bool.{not};
 ghost use mathlib.Core.List.{map};
 ghost use Prim.Native.Nat.{_+_, _≤_};
 ghost use lib.ListN.{length, drop};
@@ -13,23 +12,31 @@ ghost use lib.Seq.{paste};
 ghost use Rattle.lists.specs.Lists.{each};
 ghost use Rattle.octets.specs.Bytes.{wordsOf};
 ghost use Rattle.words.specs.Modes.{valueOf};
-ghost use Rattle.machine.specs.Runs.{stopsBy, runOf, takenBy, ranPhase, ranRoom};
+ghost use Rattle.machine.specs.Runs.{plainBy, runOf, takenBy, ranPhase, ranRoom};
 
-// No run ends at these words. With no early exit the compiler takes many words at a time.
-fn runs_on(mode: u8, words: &[u8]) -> bool
-    ensures { λ r. ⌜ r ≡ each (λ w. not (stopsBy mode w)) (wordsOf (now (words .entry))) ⌝ }
+// Every word is plain, by the lowest and the highest of them.
+fn all_plain(mode: u8, words: &[u8]) -> bool
+    ensures { λ r. ⌜ r ≡ each (plainBy mode) (wordsOf (now (words .entry))) ⌝ }
 {
+    let low = if mode == 8 { 0x101 } else { 0 };
     let n = words.len() / 2;
-    let mut all = true;
+    let mut lowest = 0xffffu16;
+    let mut highest = 0u16;
     let mut i = 0;
     while i < n {
-        all = all & !runs::stops(mode, pairs::word_at(words, i));
+        let w = pairs::word_at(words, i);
+        if w < lowest {
+            lowest = w;
+        }
+        if highest < w {
+            highest = w;
+        }
         i += 1;
     }
-    all
+    (low <= lowest) & (highest < 0x300)
 }
 
-// How many words stand in whole chunks of n before the first chunk in which a run ends.
+// How many words stand in whole chunks of n before the first chunk that is not plain.
 fn run_by_chunks(n: usize, mode: u8, words: &[u8]) -> usize
     requires { ⌜ 1 ≤ n ⌝ }
     ensures { λ r. ⌜ (r ≤ length (wordsOf (now (words .entry))))
@@ -41,7 +48,7 @@ fn run_by_chunks(n: usize, mode: u8, words: &[u8]) -> usize
         let e = i + n;
         let b = 2 * i;
         let f = 2 * e;
-        if !runs_on(mode, &words[b..f]) {
+        if !all_plain(mode, &words[b..f]) {
             return i;
         }
         i = e;

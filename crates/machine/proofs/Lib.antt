@@ -2,6 +2,7 @@ pub mod StepLaws
 pub mod PhaseLaws
 pub mod WalkLaws
 pub mod RunLaws
+pub mod PlainLaws
 pub mod HeadLaws
 pub mod Going
 pub mod PlaceLaws

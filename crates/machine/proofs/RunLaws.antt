@@ -8,13 +8,12 @@ use native.Mathlib.Nat.{add-zero, add-assoc}
 use native.Mathlib.Numerals.{add-one}
 use native.Mathlib.Omega.{arith}
 use lib.Dec.{T, eqb, leb}
-use lib.ListN.{length, getD, take, drop, set, length-set, length-drop, length-map, take-append-drop, drop-of-length-le}
+use lib.ListN.{length, getD, take, drop, set, length-set, length-map, drop-of-length-le}
 use lib.Seq.{length-take-le, take-all, drop-drop, take-suc-set, drop-set-lt, append-snoc, paste, paste-zero}
 use borrow.Rule.Slice.PartMut.{putMid}
-use borrow.Author.Tests.{lt-leb, lt-ltb, not-true}
+use borrow.Author.Tests.{lt-leb, lt-ltb}
 use Rattle.lists.specs.Tests.{pick}
-use Rattle.lists.specs.Lists.{each}
-use Rattle.lists.proofs.Tests.{pick-true, pick-false, or-false, both-true, and-none, true-false}
+use Rattle.lists.proofs.Tests.{pick-true, pick-false, or-false, and-none, true-false}
 use Rattle.lists.proofs.Lists.{map-part}
 use Rattle.lists.proofs.Loops.{next-drop, mid-paste}
 use Rattle.words.specs.Modes.{valueOf}
@@ -206,23 +205,6 @@ run-found mode ws i h e = let r = ap (runOf mode) (next-drop ws i h) ∙ run-cod
 pub run-out : (mode : ℕ) (ws : List ℕ) (i : ℕ) → length ws ≤ i → i ≡ i + runOf mode (drop i ws)
 unfolding runOf
 run-out mode ws i h = let r = ap (runOf mode) (drop-of-length-le ws h) in omega (arith, r)
-
--- ---- many words at once: no run ends among them
-run-through : (mode : ℕ) (xs ys : List ℕ) → each (λ w. not (stopsBy mode w)) xs ≡ true → runOf mode (xs ++ ys) ≡ length xs + runOf mode ys
-run-through mode [] ys e = omega arith
-run-through mode (x ∷ xs) ys e =
-    let b = both-true (not (stopsBy mode x)) (each (λ w. not (stopsBy mode w)) xs) e in
-    omega (arith, run-word mode x (xs ++ ys) (not-true _ (b .0)), run-through mode xs ys (b .1))
-
-pub run-chunk : (mode : ℕ) (ws : List ℕ) (i n : ℕ) → i + n ≤ length ws → each (λ w. not (stopsBy mode w)) (take (i + n - i) (drop i ws)) ≡ true
-    → i + n + runOf mode (drop (i + n) ws) ≡ i + runOf mode (drop i ws)
-run-chunk mode ws i n h e =
-    let k : i + n - i ≡ n = omega arith in
-    let all = rw k at e in
-    let long : length (take n (drop i ws)) ≡ n = length-take-le n (drop i ws) (rw (length-drop i ws) (omega arith)) in
-    let r = ap (runOf mode) (sym (take-append-drop n (drop i ws))) ∙ run-through mode (take n (drop i ws)) (drop n (drop i ws)) all in
-    let d = ap (runOf mode) (drop-drop n i ws) in
-    omega (arith, r, d, long)
 
 -- one search behind another
 pub run-behind : (mode : ℕ) (ws : List ℕ) (a b n : ℕ) → a + runOf mode (drop a ws) ≡ n → b + runOf mode (drop b (drop a ws)) ≡ runOf mode (drop a ws)

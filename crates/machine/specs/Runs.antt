@@ -1,9 +1,9 @@
 -- Runs of words that a phase takes with no report. No promise of a walk cites this; those of what the walks share do.
 -- Assumes nothing.
 use Prim.Native.Nat.{ℕ, suc, _+_, _-_, min}
-use mathlib.Core.Bool.{Bool, _&&_, _||_}
+use mathlib.Core.Bool.{Bool, _&&_, _||_, not}
 use mathlib.Core.List.{List, [], _∷_, map}
-use lib.Dec.{eqb}
+use lib.Dec.{eqb, ltb}
 use lib.ListN.{length, take}
 use lib.Seq.{paste}
 use Rattle.lists.specs.Tests.{pick}
@@ -16,7 +16,11 @@ use Rattle.machine.specs.declared.phase.Phase.the-variants.{Idle, Kind, 
 abbrev pub stopsBy : ℕ → ℕ → Bool
 stopsBy mode w = isCode (classOf w) || (eqb mode 8 && isNull (classOf w))
 
--- how many words stand before the first such word
+-- a plain word, at which none ends: in 8-bit mode it is above 100h, and it is below 300h, where no code stands
+abbrev pub plainBy : ℕ → ℕ → Bool
+plainBy mode w = (not (eqb mode 8) || ltb 0x100 w) && ltb w 0x300
+
+-- how many words stand before the first at which a run ends
 unfoldable pub runOf : ℕ → List ℕ → ℕ
 runOf mode [] = 0
 runOf mode (w ∷ ws) = let on = runOf mode ws in pick (stopsBy mode w) 0 (suc on)

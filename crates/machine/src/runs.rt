@@ -69,7 +69,8 @@ pub fn took(phase: Phase, taken: usize) -> Ran
     }
 }
 
-// The phase behind so many words of a run, of which it takes no more than it may: data collects them.
+// The phase behind so many words of a run, of which it takes no more than it may: data collects them. The walk over bytes asks for it; the one over words
+// matches on the phase itself, which is faster there.
 pub fn behind(phase: Phase, room: usize, k: usize) -> Ran
     ensures { λ r. ⌜ (r .taken ≡ mostBy phase room k) × (r .phase ≡ ranPhase phase (mostBy phase room k)) ⌝ }
 {

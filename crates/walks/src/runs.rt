@@ -1,34 +1,41 @@
 // Runs: words that a phase takes with no report, taken at once. Where a run ends is found first, and its values are copied in a loop
 // of their own.
-use machine::phase;
 use machine::phase::Phase;
 use machine::runs;
 use machine::runs::Ran;
 use words::forms;
 ghost use mathlib.Core.Path.{_≡_};
-ghost use mathlib.Core.Bool.{not};
 ghost use mathlib.Core.List.{map};
 ghost use Prim.Native.Nat.{_+_, _≤_};
 ghost use lib.ListN.{length, drop};
 ghost use lib.Seq.{paste};
 ghost use Rattle.lists.specs.Lists.{each};
 ghost use Rattle.words.specs.Modes.{valueOf};
-ghost use Rattle.machine.specs.Runs.{stopsBy, runOf, takenBy, ranPhase, ranRoom};
+ghost use Rattle.machine.specs.Runs.{plainBy, runOf, takenBy, ranPhase, ranRoom};
 
-// No run ends among the words. With no early exit the compiler takes many words at a time.
-fn runs_on(mode: u8, words: &[u16]) -> bool
-    ensures { λ r. ⌜ r ≡ each (λ w. not (stopsBy mode w)) (now (words .entry)) ⌝ }
+// Every word is plain: below 300h, where no code stands, and in 8-bit mode above 100h. It is asked of the lowest and the highest word, which the compiler
+// finds many at a time.
+fn all_plain(mode: u8, words: &[u16]) -> bool
+    ensures { λ r. ⌜ r ≡ each (plainBy mode) (now (words .entry)) ⌝ }
 {
-    let mut ok = true;
+    let low = if mode == 8 { 0x101 } else { 0 };
+    let mut lowest = 0xffffu16;
+    let mut highest = 0u16;
     let mut i = 0;
     while i < words.len() {
-        ok = ok & !runs::stops(mode, words[i]);
+        let w = words[i];
+        if w < lowest {
+            lowest = w;
+        }
+        if highest < w {
+            highest = w;
+        }
         i += 1;
     }
-    ok
+    (low <= lowest) & (highest < 0x300)
 }
 
-// How many words stand in whole chunks of n before the first chunk in which a run ends.
+// How many words stand in whole chunks of n before the first chunk that is not plain.
 fn run_by_chunks(n: usize, mode: u8, words: &[u16]) -> usize
     requires { ⌜ 1 ≤ n ⌝ }
     ensures { λ r. ⌜ (r ≤ length (now (words .entry))) × (r + runOf mode (drop r (now (words .entry))) ≡ runOf mode (now (words .entry))) ⌝ }
@@ -36,7 +43,7 @@ fn run_by_chunks(n: usize, mode: u8, words: &[u16]) -> usize
     let mut i = 0;
     while n <= words.len() - i {
         let e = i + n;
-        if !runs_on(mode, &words[i..e]) {
+        if !all_plain(mode, &words[i..e]) {
             return i;
         }
         i = e;
@@ -96,12 +103,36 @@ pub(crate) fn take_run(mode: u8, phase: Phase, words: &[u16], room: &mut [u16]) 
         × (r .phase ≡ ranPhase phase (r .taken))
         × (now (room .exit) ≡ ranRoom mode phase (now (words .entry)) (r .taken) (now (room .entry))) ⌝ }
 {
-    let long = room.len();
-    let most = runs::most_of(phase, words.len(), long);
+    let most = runs::most_of(phase, words.len(), room.len());
     let k = run_of(mode, &words[..most]);
-    if !phase::is_busy(phase) {
-        return runs::took(phase, k);
+    match phase {
+        Phase::Data {
+            mark,
+            announced,
+            collected,
+        } => {
+            put_run(mode, collected, &words[..k], room);
+            let next = Phase::Data {
+                mark: mark,
+                announced: announced,
+                collected: collected + k,
+            };
+            runs::took(next, k)
+        }
+        Phase::Idle => runs::took(phase, k),
+        Phase::Kind => runs::took(phase, k),
+        Phase::First { mark: _ } => runs::took(phase, k),
+        Phase::Second { mark: _, b0: _ } => runs::took(phase, k),
+        Phase::Third {
+            mark: _,
+            b0: _,
+            b1: _,
+        } => runs::took(phase, k),
+        Phase::Fourth {
+            mark: _,
+            b0: _,
+            b1: _,
+            b2: _,
+        } => runs::took(phase, k),
     }
-    put_run(mode, phase::collected_of(phase), &words[..k], room);
-    runs::behind(phase, long, k)
 }

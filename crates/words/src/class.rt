@@ -1,5 +1,5 @@
 // What a word of the payload is, by one table of 1,024 entries. A constant array is built anew wherever it is named, so it is named for single words alone: by
-// `bit_of`, which a walk asks of few words.
+// `bit_of`, which a walk asks of few words, and by `class_of` for an entry that the compiler looks up.
 ghost use mathlib.Core.Path.{_≡_};
 ghost use Rattle.words.specs.Class.{classOf, classNumber, classNumberOf, isCode, isNull};
 ghost use Rattle.words.specs.Table.{classTable, bitIn, classOfBit, classIn, classNumberIn};
@@ -98,21 +98,21 @@ pub fn class_in(t: &[u8; 1024], w: u16) -> Class
     class_of_bit(bit_in(t, w))
 }
 
-// The bit of a word. It is called from two places, so that the compiler keeps it apart, and the table is built only for a word that asks for it. The entry of 30Ah, with
-// which every block ends, is asked for by its own number: that entry the compiler looks up, and no table is built for it.
+// The bit of a word. It is called from two places, so that the compiler keeps it apart, and the table is built only for a word that asks for it.
 pub fn bit_of(w: u16) -> u8
     ensures { λ r. ⌜ r ≡ bitIn classTable w ⌝ }
 {
-    if w == END_CODE {
-        return bit_in(&classes(), END_CODE);
-    }
     bit_in(&classes(), w)
 }
 
-// The class of a word; and its number is that of the forms.
+// The class of a word; and its number is that of the forms. The entry of 30Ah, with which every block ends, is asked for by its own number: that entry
+// the compiler looks up, and no table is built for it.
 pub fn class_of(w: u16) -> Class
     ensures { λ r. ⌜ (r ≡ classOf w) × (classNumber r ≡ classNumberOf w) ⌝ }
 {
+    if w == END_CODE {
+        return class_of_bit(bit_in(&classes(), END_CODE));
+    }
     class_of_bit(bit_of(w))
 }
 

@@ -1,8 +1,7 @@
 -- `bytewalks::runs::run_by_chunks` meets its contract: what it passed over is a part of the run. Assumes nothing.
 use Rattle.lists.proofs.Needs.{need}
 use mathlib.Core.Path.{_≡_, sym, ap, _∙_}
-use mathlib.Core.Bool.{not}
-use Prim.Native.Nat.{ℕ, _+_, _-_, _*_, _≤_}
+use Prim.Native.Nat.{_+_, _-_, _*_, _≤_}
 use native.Mathlib.Nat.{zero-add}
 use native.Mathlib.Omega.{arith}
 use lib.ListN.{length, drop}
@@ -10,8 +9,8 @@ use borrow.Author.Tests.{not-false}
 use Rattle.lists.specs.Lists.{each}
 use Rattle.octets.specs.Bytes.{wordsOf}
 use Rattle.octets.proofs.BytesLaws.{length-words, words-part}
-use Rattle.machine.specs.Runs.{stopsBy, runOf}
-use Rattle.machine.proofs.RunLaws.{run-chunk}
+use Rattle.machine.specs.Runs.{plainBy, runOf}
+use Rattle.machine.proofs.PlainLaws.{plain-chunk}
 use borrow.Author.Needs.{needs}
 use Rattle.bytewalks.proofs.runs.run_by_chunks.Statement.{statement}
 use Rattle.bytewalks.proofs.runs.run_by_chunks.Tie as tie
@@ -47,8 +46,8 @@ mul-b c = let h = bytes-fit c in search needs
 mul-f : tie.Need-mul-f Inv-loop μ-loop
 mul-f c = let h = bytes-fit c in search needs
 
-part-runs-on-end : tie.Need-part-runs-on-end Inv-loop μ-loop
-part-runs-on-end c = bytes-fit c
+part-all-plain-end : tie.Need-part-all-plain-end Inv-loop μ-loop
+part-all-plain-end c = bytes-fit c
 
 returns : tie.Need-returns Inv-loop μ-loop
 returns c = c .before .before .before .before .loop .inv
@@ -66,8 +65,8 @@ loop-again c =
     let l = t .before .loop in
     let part = words-part (l .i) (l .i + a .n) (a .words .now) in (
       fits t,
-      run-chunk (a .mode) (wordsOf (a .words .now)) (l .i) (a .n) (fits t)
-          (ap (each (λ (w : ℕ). not (stopsBy (a .mode) w))) (sym part) ∙ sym (x .runs-on .ensures) ∙ not-false _ (c .if1 .left))
+      plain-chunk (a .mode) (wordsOf (a .words .now)) (l .i) (a .n) (fits t)
+          (ap (each (plainBy (a .mode))) (sym part) ∙ sym (x .all-plain .ensures) ∙ not-false _ (c .if1 .left))
           ∙ l .inv .1,
     )
 
@@ -77,6 +76,6 @@ returns-2 c = c .before .loop .inv
 pub run-by-chunks-spec : {M : Type 1} → statement M
 run-by-chunks-spec =
     tie.close (tie.spec
-    Inv-loop μ-loop loop-holds sub-loop add-e mul-b mul-f (need (tie.Need-sub-runs-on Inv-loop μ-loop) (λ c. search needs))
-    (need (tie.Need-part-runs-on-start Inv-loop μ-loop) (λ c. search needs)) part-runs-on-end
-    (need (tie.Need-runs-on-requires Inv-loop μ-loop) (λ c κs. search needs)) returns loop-less loop-again returns-2)
+    Inv-loop μ-loop loop-holds sub-loop add-e mul-b mul-f (need (tie.Need-sub-all-plain Inv-loop μ-loop) (λ c. search needs))
+    (need (tie.Need-part-all-plain-start Inv-loop μ-loop) (λ c. search needs)) part-all-plain-end
+    (need (tie.Need-all-plain-requires Inv-loop μ-loop) (λ c κs. search needs)) returns loop-less loop-again returns-2)
