@@ -1,3 +1,4 @@
 pub mod FillLaws
 pub mod Lengths
 pub mod LaidLaws
+pub mod ValueLaws

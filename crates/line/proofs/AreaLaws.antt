@@ -8,6 +8,8 @@ use native.Mathlib.Omega.{arith}
 use lib.Dec.{eqb}
 use Rattle.lists.specs.Tests.{pick}
 use Rattle.lists.specs.Lists.{each}
+use Rattle.lists.proofs.Tests.{or-left}
+use Rattle.lists.proofs.Lists.{each-by}
 use Rattle.words.specs.Forms.{isByte, isData}
 use Rattle.words.specs.Class.{classOf, isCode, separator, endCode, nullWord}
 use Rattle.words.proofs.ClassLaws.{code-class}
@@ -53,3 +55,18 @@ not-eight mode variable s e =
 pub all-nine : (s : List ℕ) → each isData s ≡ each (legal 9 false) s
 all-nine [] = refl
 all-nine (w ∷ s) = ap₂ _&&_ (nine-legal w) (all-nine s)
+
+-- ---- a word in the mode's own form may stand in any area
+formed-legal : (mode : ℕ) (variable : Bool) (w : ℕ) → pick (eqb mode 8) (isByte w) (isData w) ≡ true → legal mode variable w ≡ true
+unfolding legal pick
+formed-legal mode variable w e = or-left _ _ (go (eqb mode 8) e)
+  where
+    go : (b : Bool) → pick b (isByte w) (isData w) ≡ true → pick b (isByte w || eqb w nullWord) (isData w) ≡ true
+    go true f = or-left (isByte w) _ f
+    go false f = f
+
+-- so that of words in that form nothing else has to be asked
+pub all-formed : (mode : ℕ) (s : List ℕ) → each (λ w. pick (eqb mode 8) (isByte w) (isData w)) s ≡ true → (variable : Bool) → true ≡ each (legal mode variable) s
+all-formed mode s e variable =
+    let form : ℕ → Bool = λ w. pick (eqb mode 8) (isByte w) (isData w) in
+    sym (each-by form (legal mode variable) form (λ x a b. formed-legal mode variable x b) s e e)

@@ -10,7 +10,7 @@ pub fn all_byte(s: &[u16]) -> bool
     let mut ok = true;
     let mut i = 0;
     while i < s.len() {
-        ok = ok & words::forms::is_byte(s[i]);
+        ok = ok & words::forms::has_byte_form(s[i]);
         i += 1;
     }
     ok

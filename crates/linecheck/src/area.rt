@@ -7,11 +7,13 @@ use line::layout;
 use line::systems::System;
 use words::class;
 ghost use mathlib.Core.Path.{_≡_};
-ghost use mathlib.Core.Bool.{true, false};
+ghost use mathlib.Core.Bool.{Bool, true, false};
 ghost use Prim.Native.Nat.{_+_, _≤_};
-ghost use lib.ListN.{length};
-ghost use Rattle.lists.specs.Tests.{lowestOf};
+ghost use lib.ListN.{length, drop};
+ghost use lib.Dec.{eqb};
+ghost use Rattle.lists.specs.Tests.{pick, lowestOf};
 ghost use Rattle.lists.specs.Lists.{same, each};
+ghost use Rattle.words.specs.Forms.{isByte, isData};
 ghost use Rattle.line.specs.Layout.{endWords};
 ghost use Rattle.line.specs.Check.{legal, areaFaults, payloadFaults};
 
@@ -19,7 +21,7 @@ ghost use Rattle.line.specs.Check.{legal, areaFaults, payloadFaults};
 fn is_eight(w: u16) -> bool
     ensures { λ r. ⌜ r ≡ legal 8 false w ⌝ }
 {
-    words::forms::is_byte(w) | (w == class::NULL_WORD)
+    words::forms::has_byte_form(w) | (w == class::NULL_WORD)
 }
 
 // 8-bit mode, a fixed line.
@@ -61,8 +63,34 @@ fn all_nine_or_code(s: &[u16]) -> bool
     ok
 }
 
+// Each word is in the mode's own form: no code and no 100h stands among them.
+fn all_formed(mode: u8, s: &[u16]) -> bool
+    ensures { λ r. ⌜ r ≡ each (λ w. pick (eqb mode 8) (isByte w) (isData w)) (now (s .entry)) ⌝ }
+{
+    if mode != 8 {
+        return forms::all_data(s);
+    }
+    forms::all_byte(s)
+}
+
+// How many words stand in whole chunks of 128 before the first chunk with a word that is not in the mode's form: of those before it nothing else has to be
+// asked, whatever the kind of line. Long blocks and filler are such words.
+fn formed_words(mode: u8, s: &[u16]) -> usize
+    ensures { λ r. ⌜ (r ≤ length (now (s .entry))) × ((v : Bool) → each (legal mode v) (drop r (now (s .entry))) ≡ each (legal mode v) (now (s .entry))) ⌝ }
+{
+    let mut i = 0;
+    while 128 <= s.len() - i {
+        let e = i + 128;
+        if !all_formed(mode, &s[i..e]) {
+            return i;
+        }
+        i = e;
+    }
+    i
+}
+
 // Each word may stand in the area. Mode and kind of line are asked once, and not of each word.
-fn all_legal(mode: u8, variable: bool, s: &[u16]) -> bool
+fn each_legal(mode: u8, variable: bool, s: &[u16]) -> bool
     ensures { λ r. ⌜ r ≡ each (legal mode variable) (now (s .entry)) ⌝ }
 {
     if mode == 8 {
@@ -75,6 +103,14 @@ fn all_legal(mode: u8, variable: bool, s: &[u16]) -> bool
         return all_nine_or_code(s);
     }
     forms::all_data(s)
+}
+
+// Each word may stand in the area: what stands in its form is left out.
+fn all_legal(mode: u8, variable: bool, s: &[u16]) -> bool
+    ensures { λ r. ⌜ r ≡ each (legal mode variable) (now (s .entry)) ⌝ }
+{
+    let k = formed_words(mode, s);
+    each_legal(mode, variable, &s[k..])
 }
 
 // What stands behind the area is its CRC with flag 01h, and nothing with any other.

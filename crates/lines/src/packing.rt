@@ -3,7 +3,6 @@ use crate::opening::Reply;
 use line::check;
 use packets::list;
 use packets::packet;
-use writer::adding;
 use writer::state;
 use writer::state::Answer;
 use writer::state::Writer;
@@ -26,7 +25,7 @@ fn pack_fault(w: Writer, long: usize, values: &[u16]) -> u8
     if state::is_impossible(w) {
         return 2;
     }
-    if !adding::all_below(512, values) {
+    if !blocks::values::all_below(512, values) {
         return 17;
     }
     if 255 < n {

@@ -8,10 +8,10 @@ use native.Mathlib.Nat.{add-zero, add-assoc}
 use native.Mathlib.Numerals.{add-one}
 use native.Mathlib.Omega.{arith}
 use lib.Dec.{eqb}
-use lib.ListN.{length, getD, take, drop, set, length-set, length-map, drop-of-length-le}
+use lib.ListN.{length, getD, take, drop, set, length-set, length-map, drop-of-length-le, take-append-drop}
 use lib.Seq.{drop-cons, drop-drop, take-suc, take-suc-set, take-all, paste}
 use borrow.Rule.Slice.PartMut.{putMid}
-use Rattle.lists.specs.Lists.{same, each}
+use Rattle.lists.specs.Lists.{part, same, each}
 use Rattle.lists.proofs.Lists.{getD-map-in}
 
 pub next-drop : (s : List ℕ) (i : ℕ) → i < length s → drop i s ≡ getD s i 0 ∷ drop (i + 1) s
@@ -42,6 +42,24 @@ test-start f s = record { within = omega arith; is = refl }
 pub test-turn : (f : ℕ → Bool) (s : List ℕ) (ok b : Bool) (i : ℕ) → Testing f s ok i → i < length s → b ≡ f (getD s i 0) → Testing f s (ok && b) (i + 1)
 test-turn f s ok b i t h e =
     record { within = omega arith; is = ap (λ (x : Bool). (ok && x) && each f (drop (i + 1) s)) e ∙ each-next f ok i s h ∙ t .is }
+
+-- n at once: b says it of them
+each-join : (f : ℕ → Bool) (xs ys : List ℕ) → each f (xs ++ ys) ≡ (each f xs && each f ys)
+each-join f [] ys = refl
+each-join f (x ∷ xs) ys = ap (λ (b : Bool). f x && b) (each-join f xs ys) ∙ sym (and-next (f x) (each f xs) (each f ys))
+
+pub test-chunk : (f : ℕ → Bool) (s : List ℕ) (ok b : Bool) (i n : ℕ) → Testing f s ok i → i + n ≤ length s → b ≡ each f (part i (i + n - i) s) → Testing f s (ok && b) (i + n)
+test-chunk f s ok b i n t h e =
+    let long : i + n - i ≡ n = omega arith in
+    let rest = drop n (drop i s) in
+    record {
+      within = h;
+      is =
+          ap₂ (λ (x : Bool) (l : List ℕ). (ok && x) && each f l) (e ∙ ap (λ (k : ℕ). each f (part i k s)) long) (sym (drop-drop n i s))
+          ∙ and-next ok (each f (part i n s)) (each f rest)
+          ∙ ap (λ (x : Bool). ok && x) (sym (each-join f (part i n s) rest) ∙ ap (each f) (take-append-drop n (drop i s)))
+          ∙ t .is;
+    }
 
 pub test-end : (f : ℕ → Bool) (s : List ℕ) (ok : Bool) (i : ℕ) → Testing f s ok i → length s ≤ i → ok ≡ each f s
 test-end f s ok i t h = each-end f ok i s h ∙ t .is

@@ -10,9 +10,9 @@ use native.Mathlib.Omega.{arith}
 use lib.Dec.{T, eqb, leb, ltb, eqb→eq}
 use lib.Pow.{mod-mod-pow, field}
 use lib.Bits.{bitXor}
-use borrow.Author.Tests.{le-ltb, le-leb, ne-eqb, ltb-true, eqb-true}
+use borrow.Author.Tests.{le-ltb, le-leb, eq-eqb, ne-eqb, ltb-true, eqb-true}
 use Rattle.lists.specs.Tests.{pick}
-use Rattle.lists.proofs.Tests.{agree, agree→eq, implies, implied, below, both-true, lt-or-le}
+use Rattle.lists.proofs.Tests.{true-false, agree, agree→eq, implies, implied, below, both-true, lt-or-le}
 use Rattle.words.specs.Forms.{bit, xorOf, parity, dataWord, byteWord, isData, isByte}
 use Rattle.words.specs.Modes.{values, wordOf, valueOf}
 
@@ -75,6 +75,14 @@ byte-above w =
     (λ h. agree→eq (eqb (w / 256 + parity (w % 256)) 2) (isByte w) (below 1024 (λ w. agree (eqb (w / 256 + parity (w % 256)) 2) (isByte w)) tt w h))
     (λ h. simp (le-ltb w 1024 h, ne-eqb (w / 256 + parity (w % 256)) 2 (λ e. omega (arith, e, h))))
     (lt-or-le w 1024)
+
+-- the same, with what stands above alone on its side
+pub byte-halves : (w p : ℕ) → p ≡ parity (w % 256) → p < 2 → eqb (w / 256) (2 - p) ≡ isByte w
+byte-halves w p e h = go (eqb (w / 256) (2 - p)) refl ∙ ap (λ (q : ℕ). eqb (w / 256 + q) 2) e ∙ byte-above w
+  where
+    go : (b : Bool) → eqb (w / 256) (2 - p) ≡ b → eqb (w / 256) (2 - p) ≡ eqb (w / 256 + p) 2
+    go true f = f ∙ sym (eq-eqb (w / 256 + p) 2 (let g = eqb-true (w / 256) (2 - p) f in omega (arith, g, h)))
+    go false f = f ∙ sym (ne-eqb (w / 256 + p) 2 (λ g. true-false (sym (eq-eqb (w / 256) (2 - p) (omega (arith, g, h))) ∙ f)))
 
 -- ---- what is written reads back, each a test at all values
 pub byte-low : (v : ℕ) → v < 256 → byteWord v % 256 ≡ v

@@ -28,6 +28,18 @@ pub fn is_byte(w: u16) -> bool
     w / 256 + parity_of(w) == 2
 }
 
+// The same as `is_byte`, asked of the word's two bytes: a loop over words takes twice as many of them at a time. A single word is asked faster by `is_byte`.
+pub fn has_byte_form(w: u16) -> bool
+    ensures { λ r. ⌜ r ≡ isByte w ⌝ }
+{
+    let low = (w % 256) as u8;
+    let high = (w / 256) as u8;
+    let a = low ^ (low / 16);
+    let b = a ^ (a / 4);
+    let parity = (b ^ (b / 2)) % 2;
+    high == 2 - parity
+}
+
 // The word in data form of B8-B0 of v.
 pub fn data_word(v: u16) -> u16
     ensures { λ r. ⌜ r ≡ dataWord v ⌝ }

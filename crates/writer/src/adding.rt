@@ -9,14 +9,12 @@ use line::check;
 use line::systems;
 ghost use mathlib.Core.Path.{_≡_};
 ghost use mathlib.Core.Bool.{true, false};
-ghost use lib.Dec.{ltb};
 ghost use lib.ListN.{length};
 ghost use Rattle.lists.specs.Tests.{lowestOf};
-ghost use Rattle.lists.specs.Lists.{each};
 ghost use Rattle.line.specs.Fixed.{isVariable, sizeOf};
 ghost use Rattle.writer.specs.Answers.{laidNumbers, added};
 ghost use Rattle.writer.specs.Numbers.{allFits, laidBy};
-ghost use Rattle.writer.specs.Adding.{valued, illShaped, isFull, isOther, addFault, adding};
+ghost use Rattle.writer.specs.Adding.{illShaped, isFull, isOther, addFault, adding};
 ghost use Rattle.writer.specs.Placing.{placing};
 ghost use Rattle.writer.specs.Batch.{batchFault};
 ghost use Rattle.writer.specs.Ground.{heldBy, Grounds, Standing, blockFaults, IsStep, filled};
@@ -53,27 +51,6 @@ pub struct Step {
 pub struct Asked {
     pub fault: u8,
     pub ground: Ground,
-}
-
-// Each value is one of the mode's.
-fn is_valued(mode: u8, values: &[u16]) -> bool
-    ensures { λ r. ⌜ r ≡ valued mode (now (values .entry)) ⌝ }
-{
-    let limit = words::forms::values_of(mode);
-    all_below(limit, values)
-}
-
-// Each value is below the limit. Every value is looked at, so that the loop has no early exit.
-pub fn all_below(limit: u16, s: &[u16]) -> bool
-    ensures { λ r. ⌜ r ≡ each (λ v. ltb v limit) (now (s .entry)) ⌝ }
-{
-    let mut ok = true;
-    let mut i = 0;
-    while i < s.len() {
-        ok = ok & (s[i] < limit);
-        i += 1;
-    }
-    ok
 }
 
 // n above 16,384 or type above FFh; fixed line open: n not size-1 or type 00h.
@@ -170,7 +147,7 @@ pub(crate) fn block_fault(g: Ground, h: Held, kind: u16, values: &[u16]) -> u8
     let place = h.place;
     let rest = h.rest;
     let n = values.len();
-    if !is_valued(g.mode, values) {
+    if !blocks::values::all_valued(g.mode, values) {
         return 17;
     }
     if is_ill_shaped(place, g.block, g.size, kind, n) {

@@ -18,7 +18,7 @@ loop-holds : tie.Need-loop-holds Inv-loop μ-loop
 loop-holds c = test-start isByte _
 
 loop-again : tie.Need-loop-again Inv-loop μ-loop
-loop-again c = test-turn isByte _ _ _ _ (c .before .before .before .loop .inv) (c .before .before .loop-test .taken) (c .is-byte .ensures)
+loop-again c = test-turn isByte _ _ _ _ (c .before .before .before .loop .inv) (c .before .before .loop-test .taken) (c .has-byte-form .ensures)
 
 returns : tie.Need-returns Inv-loop μ-loop
 returns c = test-end isByte _ _ _ (c .before .loop .inv) (c .loop-test .left)
@@ -26,7 +26,7 @@ returns c = test-end isByte _ _ _ (c .before .loop .inv) (c .loop-test .left)
 pub all-byte-spec : {M : Type 1} → statement M
 all-byte-spec =
     tie.close (tie.spec
-    Inv-loop μ-loop loop-holds (need (tie.Need-mul-is-byte Inv-loop μ-loop) (λ c. search needs))
-    (need (tie.Need-shared-slice-read-is-byte Inv-loop μ-loop) (λ c. search needs))
-    (need (tie.Need-is-byte-requires Inv-loop μ-loop) (λ c κs. search needs)) (need (tie.Need-add-i Inv-loop μ-loop) (λ c. search needs))
+    Inv-loop μ-loop loop-holds (need (tie.Need-mul-has-byte-form Inv-loop μ-loop) (λ c. search needs))
+    (need (tie.Need-shared-slice-read-has-byte-form Inv-loop μ-loop) (λ c. search needs))
+    (need (tie.Need-has-byte-form-requires Inv-loop μ-loop) (λ c κs. search needs)) (need (tie.Need-add-i Inv-loop μ-loop) (λ c. search needs))
     (need (tie.Need-loop-less Inv-loop μ-loop) (λ c. search needs)) loop-again returns)

@@ -10,7 +10,7 @@ use Rattle.linecheck.proofs.area.is_eight.Statement.{statement}
 use Rattle.linecheck.proofs.area.is_eight.Tie as tie
 
 returns : tie.Need-returns
-returns c = let w = c .before .args .w in ap (λ (b : Bool). b || eqb w nullWord) (c .is-byte .ensures) ∙ eight-legal w
+returns c = let w = c .before .args .w in ap (λ (b : Bool). b || eqb w nullWord) (c .has-byte-form .ensures) ∙ eight-legal w
 
 pub is-eight-spec : {M : Type 1} → statement M
-is-eight-spec = tie.close (tie.spec (need tie.Need-is-byte-requires (λ c κs. search needs)) returns)
+is-eight-spec = tie.close (tie.spec (need tie.Need-has-byte-form-requires (λ c κs. search needs)) returns)

@@ -14,7 +14,8 @@ use Rattle.writer.proofs.adding.block_fault.Tie as tie
 good : (c : tie.Else1) →
     let a = c .before .before .before .args in
     not (valued (a .g .mode) (a .values .now)) ≡ false
-good c = sym (ap not (c .before .is-valued .ensures)) ∙ c .if1 .left
+unfolding valued
+good c = sym (ap not (c .before .all-valued .ensures)) ∙ c .if1 .left
 
 shaped : (c : tie.Else2) →
     let a = c .before .before .before .before .before .args in
@@ -22,9 +23,10 @@ shaped : (c : tie.Else2) →
 shaped c = sym (c .before .is-ill-shaped .ensures) ∙ c .if2 .left
 
 returns : tie.Need-returns
+unfolding valued
 returns c =
     let a = c .before .before .before .args in
-    let l : LowestOf (blockFaults (a .g) (a .h) (a .kind) (a .values .now)) 17 = low-hit 17 (sym (ap not (c .before .is-valued .ensures)) ∙ c .if1 .taken) in
+    let l : LowestOf (blockFaults (a .g) (a .h) (a .kind) (a .values .now)) 17 = low-hit 17 (sym (ap not (c .before .all-valued .ensures)) ∙ c .if1 .taken) in
     l .is
 
 is-ill-shaped-requires : tie.Need-is-ill-shaped-requires
@@ -64,6 +66,6 @@ returns-4 c =
 pub block-fault-spec : {M : Type 1} → statement M
 block-fault-spec =
     tie.close (tie.spec
-    (need tie.Need-is-valued-requires (λ c κs. search needs)) returns is-ill-shaped-requires returns-2
+    (need tie.Need-all-valued-requires (λ c κs. search needs)) returns is-ill-shaped-requires returns-2
     (need tie.Need-is-full-requires (λ c κs. search needs)) returns-3 (need tie.Need-is-at-requires (λ c κs. search needs))
     (need tie.Need-is-other-requires (λ c κs. search needs)) (need tie.Need-or-else-requires (λ c κs. search needs)) returns-4)

@@ -1,4 +1,4 @@
--- `writer::adding::all_below` meets its contract. Assumes nothing.
+-- `blocks::values::all_below` meets its contract. Assumes nothing.
 use Rattle.lists.proofs.Needs.{need}
 use mathlib.Core.Path.{refl}
 use Prim.Native.Nat.{_-_}
@@ -6,8 +6,8 @@ use lib.Dec.{ltb}
 use lib.ListN.{length}
 use Rattle.lists.proofs.Loops.{Testing, test-start, test-turn, test-end}
 use borrow.Author.Needs.{needs}
-use Rattle.writer.proofs.adding.all_below.Statement.{statement}
-use Rattle.writer.proofs.adding.all_below.Tie as tie
+use Rattle.blocks.proofs.values.all_below.Statement.{statement}
+use Rattle.blocks.proofs.values.all_below.Tie as tie
 
 abbrev Inv-loop : tie.InvT-loop
 Inv-loop limit s ok₀ i₀ ok i = Testing (λ v. ltb v limit) s ok i
