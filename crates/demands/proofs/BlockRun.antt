@@ -14,7 +14,7 @@ use borrow.Author.Tests.{ltb-true, le-ltb, lt-leb, eq-eqb}
 use Rattle.lists.specs.Tests.{pick}
 use Rattle.lists.specs.Lists.{each}
 use Rattle.lists.proofs.Tests.{or-right, false-or, both-true, pick-true, pick-false, and-none}
-use Rattle.lists.proofs.Lists.{each-append, each-map}
+use Rattle.lists.proofs.Lists.{each-append, each-map, each-take, each-drop}
 use Rattle.words.specs.Forms.{isData, isByte, dataWord, byteWord}
 use Rattle.words.specs.Modes.{values, wordOf, valueOf}
 use Rattle.words.specs.Class.{classOf, isCode, separator, endCode, nullWord}
@@ -33,7 +33,7 @@ use Rattle.machine.proofs.RunLaws.{collecting, data-class, value-kept}
 use Rattle.writer.specs.Block.{countWords, blockWords}
 use Rattle.writer.specs.State.{most}
 use Rattle.writer.specs.Adding.{valued}
-use Rattle.writer.proofs.Legal.{each-take, each-drop, each-filler, byte-any, value-some}
+use Rattle.writer.proofs.Legal.{each-filler, byte-any, value-some}
 use Rattle.demands.specs.Hearing.{Heard, is-block}
 use Rattle.demands.proofs.Run.{Now, now, idle, metHeard, stepTo, stepOut, runTo, runOut}
 use Rattle.demands.proofs.RunLaws.{run-to-append, run-out-append}

@@ -10,7 +10,7 @@ use lib.ListN.{length, take, drop, length-take, length-drop}
 use lib.Seq.{take-all, take-add}
 use borrow.Author.Tests.{eqb-true, eqb-false, not-false}
 use Rattle.lists.proofs.Tests.{or-false, both-true}
-use Rattle.lists.proofs.Lists.{each-append}
+use Rattle.lists.proofs.Lists.{each-append, each-take, each-drop}
 use Rattle.words.specs.Modes.{values}
 use Rattle.line.specs.declared.settings.Settings.{Settings}
 use Rattle.line.specs.Fixed.{isVariable, sizeOf}
@@ -24,7 +24,6 @@ use Rattle.writer.specs.Block.{blockWords, fixedWords, wordsIn}
 use Rattle.writer.specs.Adding.{valued, illShaped, isOther, addFault, todo, fitting, adding}
 use Rattle.writer.specs.Filling.{pieceOf, asLaid}
 use Rattle.writer.proofs.BlockLaws.{words-variable, words-fixed, block-long, count, count-variable, words-long}
-use Rattle.writer.proofs.Legal.{each-take, each-drop}
 use Rattle.writer.proofs.Refusals.{CanAdd, can-add}
 use Rattle.writer.proofs.Stays.{part-laid, fixed-whole}
 use Rattle.writer.proofs.Pieces.{piece-laid, all-laid, some-left, fixed-once, as-long, as-before, as-behind}

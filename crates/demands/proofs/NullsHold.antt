@@ -15,7 +15,7 @@ use borrow.Author.Tests.{eq-eqb, lt-leb}
 use Rattle.lists.specs.Tests.{pick}
 use Rattle.lists.specs.Lists.{part, each}
 use Rattle.lists.proofs.Tests.{or-left, or-right, false-or, both-true, and-none, pick-true}
-use Rattle.lists.proofs.Lists.{each-append}
+use Rattle.lists.proofs.Lists.{each-append, each-take, each-drop}
 use Rattle.words.specs.Forms.{byteWord, isByte, isData}
 use Rattle.words.specs.Modes.{wordOf, valueOf}
 use Rattle.words.specs.Class.{classOf, separator, endCode, nullWord, isCode, isNull}
@@ -31,7 +31,7 @@ use Rattle.writer.specs.State.{most, laidOf}
 use Rattle.writer.specs.Block.{countWords, blockWords, fixedWords, wordsIn}
 use Rattle.writer.specs.Answers.{laidNumbers}
 use Rattle.writer.specs.Adding.{todo, fitting, adding}
-use Rattle.writer.proofs.Legal.{each-take, each-drop, byte-some, value-some}
+use Rattle.writer.proofs.Legal.{byte-some, value-some}
 use Rattle.writer.proofs.Pieces.{laid-ok, piece-laid}
 use Rattle.machine.specs.declared.phase.Mark.the-variants.{Nulled}
 use Rattle.machine.specs.declared.phase.Phase.{Phase}

@@ -92,6 +92,16 @@ pub each-append : (f : ℕ → Bool) (xs ys : List ℕ) → each f xs ≡ true �
 each-append f [] ys p q = q
 each-append f (x ∷ xs) ys p q = let b = both-true (f x) (each f xs) p in ap₂ _&&_ (b .0) (each-append f xs ys (b .1) q)
 
+pub each-take : (f : ℕ → Bool) (n : ℕ) (l : List ℕ) → each f l ≡ true → each f (take n l) ≡ true
+each-take f zero l e = refl
+each-take f (suc n) [] e = refl
+each-take f (suc n) (x ∷ l) e = let b = both-true (f x) (each f l) e in ap₂ _&&_ (b .0) (each-take f n l (b .1))
+
+pub each-drop : (f : ℕ → Bool) (n : ℕ) (l : List ℕ) → each f l ≡ true → each f (drop n l) ≡ true
+each-drop f zero l e = e
+each-drop f (suc n) [] e = refl
+each-drop f (suc n) (x ∷ l) e = each-drop f n l (both-true (f x) (each f l) e .1)
+
 pub each-at : (f : ℕ → Bool) (xs : List ℕ) (i : ℕ) → i < length xs → each f xs ≡ true → f (getD xs i 0) ≡ true
 each-at f [] i h e = absurd (omega arith)
 each-at f (x ∷ xs) zero h e = both-true (f x) (each f xs) e .0

@@ -2,7 +2,7 @@
 -- Assumes nothing.
 use mathlib.Core.Path.{_≡_, refl, sym, ap, ap₂, _∙_, subst}
 use mathlib.Core.Bool.{Bool, true, false, _&&_, _||_, not}
-use mathlib.Core.List.{List, [], _∷_, _++_}
+use mathlib.Core.List.{List, [], _∷_, _++_, append-nil}
 use Prim.Native.Nat.{ℕ, _+_, _-_, _<_, _≤_}
 use native.Mathlib.Omega.{arith}
 use lib.Dec.{eqb, leb, ltb}
@@ -10,12 +10,13 @@ use lib.ListN.{length, getD, take, drop, length-drop, take-append-drop}
 use lib.Seq.{length-take-le, drop-drop}
 use borrow.Author.Tests.{ltb-true, leb-true, le-leb, lt-ltb, ne-eqb}
 use Rattle.lists.specs.Lists.{each}
+use Rattle.lists.proofs.Lists.{each-drop}
 use Rattle.lists.proofs.Tests.{both-true, and-true, false-or, and-none}
 use Rattle.lists.proofs.Loops.{Testing, test-start, test-turn}
 use Rattle.words.specs.Class.{classOf, separator, endCode, nullWord, isCode, isNull}
 use Rattle.words.proofs.ClassLaws.{code-class, null-class}
 use Rattle.machine.specs.Runs.{stopsBy, plainBy, runOf}
-use Rattle.machine.proofs.RunLaws.{run-word}
+use Rattle.machine.proofs.RunLaws.{run-word, run-long}
 
 -- ---- no run ends at a plain word
 plain-not-code : (w : ℕ) → w < 0x300 → isCode (classOf w) ≡ false
@@ -46,6 +47,15 @@ plain-chunk mode ws i n h e =
     let r = ap (runOf mode) (sym (take-append-drop n (drop i ws))) ∙ plain-through mode (take n (drop i ws)) (drop n (drop i ws)) all in
     let d = ap (runOf mode) (drop-drop n i ws) in
     omega (arith, r, d, long)
+
+-- and to the end, where the words from j on are plain and the run is known before i, which is behind them
+pub plain-end : (mode : ℕ) (ws : List ℕ) (i j : ℕ) → j ≤ i → i ≤ length ws → each (plainBy mode) (drop j ws) ≡ true → i + runOf mode (drop i ws) ≡ length ws
+plain-end mode ws i j h l e =
+    let back : j + (i - j) ≡ i = omega arith in
+    let same : drop (i - j) (drop j ws) ≡ drop i ws = drop-drop (i - j) j ws ∙ ap (λ (k : ℕ). drop k ws) back in
+    let all = ap (each (plainBy mode)) (sym same) ∙ each-drop (plainBy mode) (i - j) (drop j ws) e in
+    let r = ap (runOf mode) (sym (append-nil (drop i ws))) ∙ plain-through mode (drop i ws) [] all in
+    omega (arith, r, run-long mode [], length-drop i ws)
 
 -- ---- the lowest and the highest
 -- of two tests one is enough where it holds only if the other does

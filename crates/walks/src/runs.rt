@@ -5,6 +5,7 @@ use machine::runs;
 use machine::runs::Ran;
 use words::forms;
 ghost use mathlib.Core.Path.{_≡_};
+ghost use mathlib.Core.Bool.{true};
 ghost use mathlib.Core.List.{map};
 ghost use Prim.Native.Nat.{_+_, _≤_};
 ghost use lib.ListN.{length, drop};
@@ -64,13 +65,37 @@ fn run_by_words(mode: u8, words: &[u16]) -> usize
     i
 }
 
-// How many words stand before the first at which a run ends: 32 at a time, then 8, then one.
+// The last 32 words are plain, and the run is known to reach them: then it reaches the end. So what whole chunks leave over is asked at once.
+fn ends_plain(mode: u8, i: usize, words: &[u16]) -> bool
+    ensures { λ r. ⌜ (r ≡ true → i ≤ length (now (words .entry)) → i + runOf mode (drop i (now (words .entry))) ≡ length (now (words .entry))) ⌝ }
+{
+    if words.len() < 32 {
+        return false;
+    }
+    let last = words.len() - 32;
+    if i < last {
+        return false;
+    }
+    all_plain(mode, &words[last..])
+}
+
+// How many words stand before the first at which a run ends: 8 at a time, then one.
+fn run_of_few(mode: u8, words: &[u16]) -> usize
+    ensures { λ r. ⌜ r ≡ runOf mode (now (words .entry)) ⌝ }
+{
+    let a = run_by_chunks(8, mode, words);
+    a + run_by_words(mode, &words[a..])
+}
+
+// The same, 32 at a time; then all that is left, and where the run ends in it 8 at a time.
 fn run_of(mode: u8, words: &[u16]) -> usize
     ensures { λ r. ⌜ r ≡ runOf mode (now (words .entry)) ⌝ }
 {
     let a = run_by_chunks(32, mode, words);
-    let b = a + run_by_chunks(8, mode, &words[a..]);
-    b + run_by_words(mode, &words[b..])
+    if ends_plain(mode, a, words) {
+        return words.len();
+    }
+    a + run_of_few(mode, &words[a..])
 }
 
 // The values of words, into a part of the room of their length.

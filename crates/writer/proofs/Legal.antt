@@ -23,16 +23,6 @@ use Rattle.writer.specs.Block.{countWords, blockWords, fixedWords, words
 use Rattle.writer.specs.Adding.{valued}
 
 -- ---- parts of a list of which each passes a test
-pub each-take : (f : ℕ → Bool) (n : ℕ) (l : List ℕ) → each f l ≡ true → each f (take n l) ≡ true
-each-take f zero l e = refl
-each-take f (suc n) [] e = refl
-each-take f (suc n) (x ∷ l) e = let b = both-true (f x) (each f l) e in ap₂ _&&_ (b .0) (each-take f n l (b .1))
-
-pub each-drop : (f : ℕ → Bool) (n : ℕ) (l : List ℕ) → each f l ≡ true → each f (drop n l) ≡ true
-each-drop f zero l e = e
-each-drop f (suc n) [] e = refl
-each-drop f (suc n) (x ∷ l) e = each-drop f n l (both-true (f x) (each f l) e .1)
-
 pub each-filler : (f : ℕ → Bool) (n x : ℕ) → f x ≡ true → each f (replicate n x) ≡ true
 each-filler f zero x e = refl
 each-filler f (suc n) x e = ap₂ _&&_ e (each-filler f n x e)

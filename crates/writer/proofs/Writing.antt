@@ -12,7 +12,7 @@ use lib.Dec.{lit<}
 use lib.ListN.{length, take, drop, replicate, length-append, length-replicate}
 use lib.Seq.{paste, length-take-le, take-at, drop-at}
 use Rattle.lists.specs.Lists.{part, each}
-use Rattle.lists.proofs.Lists.{each-append}
+use Rattle.lists.proofs.Lists.{each-append, each-take, each-drop}
 use Rattle.words.specs.Crc.{crcStart, crcOf}
 use Rattle.words.specs.Modes.{isMode}
 use Rattle.words.proofs.CrcLaws.{crc-none, crc-append}
@@ -47,7 +47,7 @@ use Rattle.writer.proofs.FillLaws.{piece-law}
 use Rattle.writer.proofs.Keeps.{open-clear, open-leaves, open-keeps, close-clear, close-leaves, close-keeps, add-leaves, add-stays}
 use Rattle.writer.proofs.Packs.{can-pack, pack-clear, pack-leaves, pack-keeps, pasted-gap}
 use Rattle.writer.proofs.Framing.{front, front-length, framed-front, pasted, seals}
-use Rattle.writer.proofs.Legal.{each-take, each-drop, each-filler, filler-legal, words-legal}
+use Rattle.writer.proofs.Legal.{each-filler, filler-legal, words-legal}
 use Rattle.line.proofs.AreaLaws.{area-most}
 use Rattle.course.proofs.CourseLaws.{end-in-area}
 use Rattle.writer.proofs.Refusals.{CanOpen, can-open, can-add}
