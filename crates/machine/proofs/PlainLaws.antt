@@ -1,35 +1,47 @@
--- Laws of plain words: no run ends at one, and many are plain where the lowest and the highest of them are.
+-- Laws of plain words: no run ends at one, and many are plain where no bit of what they are above the first plain one is too high.
 -- Assumes nothing.
-use mathlib.Core.Path.{_≡_, refl, sym, ap, ap₂, _∙_, subst}
-use mathlib.Core.Bool.{Bool, true, false, _&&_, _||_, not}
+use mathlib.Core.Path.{_≡_, refl, sym, ap, _∙_, subst}
+use mathlib.Core.Bool.{Bool, true, false, _&&_, _||_}
 use mathlib.Core.List.{List, [], _∷_, _++_, append-nil}
-use Prim.Native.Nat.{ℕ, _+_, _-_, _<_, _≤_}
+use mathlib.Core.Logic.{⊎-elim}
+use Prim.Native.Nat.{ℕ, _+_, _-_, _%_, _<_, _≤_}
 use native.Mathlib.Omega.{arith}
+use lib.Bits.{bitOr, or-lt, or-add-and, and-le-l, and-le-r}
 use lib.Dec.{eqb, leb, ltb}
 use lib.ListN.{length, getD, take, drop, length-drop, take-append-drop}
 use lib.Seq.{length-take-le, drop-drop}
-use borrow.Author.Tests.{ltb-true, leb-true, le-leb, lt-ltb, ne-eqb}
+use borrow.Author.Tests.{ltb-true, ltb-false, leb-true, le-leb, lt-leb, lt-ltb, le-ltb, eq-eqb, ne-eqb}
+use Rattle.lists.specs.Tests.{pick}
 use Rattle.lists.specs.Lists.{each}
 use Rattle.lists.proofs.Lists.{each-drop}
-use Rattle.lists.proofs.Tests.{both-true, and-true, false-or, and-none}
-use Rattle.lists.proofs.Loops.{Testing, test-start, test-turn}
+use Rattle.lists.proofs.Tests.{both-true, and-true, false-or, and-none, lt-or-le, pick-true, pick-false}
+use Rattle.lists.proofs.Loops.{Testing, test-turn}
 use Rattle.words.specs.Class.{classOf, separator, endCode, nullWord, isCode, isNull}
 use Rattle.words.proofs.ClassLaws.{code-class, null-class}
-use Rattle.machine.specs.Runs.{stopsBy, plainBy, runOf}
+use Rattle.machine.specs.Runs.{stopsBy, isFrom, plainBy, runOf}
 use Rattle.machine.proofs.RunLaws.{run-word, run-long}
 
--- ---- no run ends at a plain word
-plain-not-code : (w : ℕ) → w < 0x300 → isCode (classOf w) ≡ false
-plain-not-code w h = sym (code-class w) ∙ false-or (ne-eqb w separator (λ e. omega (arith, e))) (ne-eqb w endCode (λ e. omega (arith, e)))
+-- ---- by the mode
+pub plain-eight : (mode : ℕ) (ws : List ℕ) → mode ≡ 8 → each (isFrom 0x101) ws ≡ each (plainBy mode) ws
+plain-eight mode ws e = ap (λ (n : ℕ). each (isFrom n) ws) (sym (pick-true 0x101 0x100 (eq-eqb mode 8 e)))
 
-plain-not-null : (w : ℕ) (b : Bool) → (not b || ltb 0x100 w) ≡ true → (b && isNull (classOf w)) ≡ false
-plain-not-null w true e = sym (null-class w) ∙ ne-eqb w nullWord (λ i. omega (arith, i, ltb-true 0x100 w e))
-plain-not-null w false e = refl
+pub plain-nine : (mode : ℕ) (ws : List ℕ) → (mode ≡ 8 → ⊥) → each (isFrom 0x100) ws ≡ each (plainBy mode) ws
+plain-nine mode ws e = ap (λ (n : ℕ). each (isFrom n) ws) (sym (pick-false 0x101 0x100 (ne-eqb mode 8 e)))
+
+-- ---- no run ends at a plain word
+low-no-code : (w : ℕ) → w < 0x309 → isCode (classOf w) ≡ false
+low-no-code w h = sym (code-class w) ∙ false-or (ne-eqb w separator (λ e. omega (arith, e))) (ne-eqb w endCode (λ e. omega (arith, e)))
+
+goes-by : (b : Bool) (w : ℕ) → isFrom (pick b 0x101 0x100) w ≡ true → (isCode (classOf w) || (b && isNull (classOf w))) ≡ false
+unfolding pick
+goes-by true w e =
+    let b = both-true (leb 0x101 w) (ltb w 0x301) e in
+    let h = leb-true 0x101 w (b .0) in
+    false-or (low-no-code w (omega (arith, ltb-true w 0x301 (b .1)))) (sym (null-class w) ∙ ne-eqb w nullWord (λ i. omega (arith, h, i)))
+goes-by false w e = let b = both-true (leb 0x100 w) (ltb w 0x300) e in false-or (low-no-code w (omega (arith, ltb-true w 0x300 (b .1)))) refl
 
 plain-goes : (mode w : ℕ) → plainBy mode w ≡ true → stopsBy mode w ≡ false
-plain-goes mode w e =
-    let b = both-true (not (eqb mode 8) || ltb 0x100 w) (ltb w 0x300) e in
-    false-or (plain-not-code w (ltb-true w 0x300 (b .1))) (plain-not-null w (eqb mode 8) (b .0))
+plain-goes mode w e = goes-by (eqb mode 8) w e
 
 -- so a run goes on through a chunk of them
 plain-through : (mode : ℕ) (xs ys : List ℕ) → each (plainBy mode) xs ≡ true → runOf mode (xs ++ ys) ≡ length xs + runOf mode ys
@@ -57,61 +69,36 @@ plain-end mode ws i j h l e =
     let r = ap (runOf mode) (sym (append-nil (drop i ws))) ∙ plain-through mode (drop i ws) [] all in
     omega (arith, r, run-long mode [], length-drop i ws)
 
--- ---- the lowest and the highest
--- of two tests one is enough where it holds only if the other does
-right-alone : (x y : Bool) → (y ≡ true → x ≡ true) → y ≡ (x && y)
-right-alone x true h = sym (ap (λ (b : Bool). b && true) (h refl))
-right-alone x false h = sym (and-none x false refl)
+-- ---- the bits of many numbers
+or-below : (a b : ℕ) → (ltb a 0x200 && ltb b 0x200) ≡ ltb (bitOr a b) 0x200
+or-below a b = go (ltb a 0x200) (ltb b 0x200) refl refl
+  where
+    go : (s t : Bool) → ltb a 0x200 ≡ s → ltb b 0x200 ≡ t → (ltb a 0x200 && ltb b 0x200) ≡ ltb (bitOr a b) 0x200
+    go true true p q = and-true p q ∙ sym (lt-ltb (bitOr a b) 0x200 (or-lt 9 a b (ltb-true a 0x200 p) (ltb-true b 0x200 q)))
+    go true false p q =
+        and-none (ltb a 0x200) (ltb b 0x200) q ∙ sym (le-ltb (bitOr a b) 0x200 (omega (arith, ltb-false b 0x200 q, or-add-and a b, and-le-l a b)))
+    go false t p q =
+        ap (λ (x : Bool). x && ltb b 0x200) p ∙ sym (le-ltb (bitOr a b) 0x200 (omega (arith, ltb-false a 0x200 p, or-add-and a b, and-le-r a b)))
 
-left-alone : (x y : Bool) → (x ≡ true → y ≡ true) → x ≡ (x && y)
-left-alone true y h = sym (h refl)
-left-alone false y h = refl
+-- what a word is above low, which wraps, says whether it is one of those
+above-from : (low w d : ℕ) → low ≤ 0x101 → (d + low) % 65536 ≡ w → d < 65536 → ltb d 0x200 ≡ isFrom low w
+above-from low w d small e h = go (ltb d 0x200) refl
+  where
+    go : (s : Bool) → ltb d 0x200 ≡ s → ltb d 0x200 ≡ isFrom low w
+    go true p =
+        let b = ltb-true d 0x200 p in
+        p ∙ sym (and-true (le-leb low w (omega (arith, b, e, small))) (lt-ltb w (low + 0x200) (omega (arith, b, e, small))))
+    go false p =
+        let b = ltb-false d 0x200 p in
+        p ∙ sym (⊎-elim (λ k. ap (λ (x : Bool). x && ltb w (low + 0x200)) (lt-leb low w k))
+        (λ k. and-none (leb low w) (ltb w (low + 0x200)) (le-ltb w (low + 0x200) (omega (arith, b, e, small, h, k)))) (lt-or-le w low))
 
--- what the lowest and the highest of so many are with one word more
-module _ (mark a w c : ℕ) where
-  pub lower-new : w < a → c ≡ w → leb mark c ≡ (leb mark a && leb mark w)
-  lower-new h e = ap (leb mark) e ∙ right-alone (leb mark a) (leb mark w) (λ t. le-leb mark a (omega (arith, h, leb-true mark w t)))
+-- ---- the loop that gathers them: the test of the bits of the first i
+abbrev pub Gathered : ℕ → List ℕ → ℕ → ℕ → Type 0
+Gathered low ws bits i = Testing (isFrom low) ws (ltb bits 0x200) i
 
-  pub lower-kept : a ≤ w → c ≡ a → leb mark c ≡ (leb mark a && leb mark w)
-  lower-kept h e = ap (leb mark) e ∙ left-alone (leb mark a) (leb mark w) (λ t. le-leb mark w (omega (arith, h, leb-true mark a t)))
-
-  pub higher-new : a < w → c ≡ w → ltb c mark ≡ (ltb a mark && ltb w mark)
-  higher-new h e = ap (λ (n : ℕ). ltb n mark) e ∙ right-alone (ltb a mark) (ltb w mark) (λ t. lt-ltb a mark (omega (arith, h, ltb-true w mark t)))
-
-  pub higher-kept : w ≤ a → c ≡ a → ltb c mark ≡ (ltb a mark && ltb w mark)
-  higher-kept h e = ap (λ (n : ℕ). ltb n mark) e ∙ left-alone (ltb a mark) (ltb w mark) (λ t. lt-ltb w mark (omega (arith, h, ltb-true a mark t)))
-
--- ---- the loop that finds them
--- from low on, and below 300h, words are plain
-abbrev pub PlainFrom : ℕ → ℕ → Type 0
-PlainFrom mode low = (low ≤ 0xffff) × ((w : ℕ) → (leb low w && ltb w 0x300) ≡ plainBy mode w)
-
-pub plain-eight : (mode low : ℕ) → mode ≡ 8 → low ≡ 0x101 → PlainFrom mode low
-plain-eight mode low e f =
-    (omega (arith, f), λ w. ap (λ (n : ℕ). leb n w && ltb w 0x300) f ∙ ap (λ (m : ℕ). (not (eqb m 8) || ltb 0x100 w) && ltb w 0x300) (sym e))
-
-pub plain-nine : (mode low : ℕ) → (mode ≡ 8 → ⊥) → low ≡ 0 → PlainFrom mode low
-plain-nine mode low e f = (
-  omega (arith, f),
-  λ w. ap (λ (b : Bool). b && ltb w 0x300) (le-leb low w (omega (arith, f))) ∙ ap (λ (b : Bool). (not b || ltb 0x100 w) && ltb w 0x300) (sym (ne-eqb mode 8 e)),
-)
-
--- the tests of the lowest and the highest of the first i
-abbrev pub Plains : ℕ → ℕ → List ℕ → ℕ → ℕ → ℕ → Type 0
-Plains mode low ws a b i = Testing (plainBy mode) ws (leb low a && ltb b 0x300) i
-
-shuffled : (p q r s : Bool) → ((p && q) && (r && s)) ≡ ((p && r) && (q && s))
-shuffled true true r s = refl
-shuffled true false true s = refl
-shuffled true false false s = refl
-shuffled false q r s = refl
-
-pub plains-start : (mode low : ℕ) (ws : List ℕ) → PlainFrom mode low → Plains mode low ws 0xffff 0 0
-plains-start mode low ws f =
-    subst (λ (b : Bool). Testing (plainBy mode) ws b 0) (sym (and-true (le-leb low 0xffff (f .0)) refl)) (test-start (plainBy mode) ws)
-
-pub plains-turn : (mode low : ℕ) (ws : List ℕ) (a b w c d i : ℕ) → PlainFrom mode low → Plains mode low ws a b i → i < length ws → w ≡ getD ws i 0
-    → leb low c ≡ (leb low a && leb low w) → ltb d 0x300 ≡ (ltb b 0x300 && ltb w 0x300) → Plains mode low ws c d (i + 1)
-plains-turn mode low ws a b w c d i f t h e p q =
-    subst (λ (x : Bool). Testing (plainBy mode) ws x (i + 1)) (shuffled (leb low a) (ltb b 0x300) (leb low w) (ltb w 0x300) ∙ sym (ap₂ _&&_ p q))
-    (test-turn (plainBy mode) ws (leb low a && ltb b 0x300) (leb low w && ltb w 0x300) i t h (f .1 w ∙ ap (plainBy mode) e))
+pub gather-turn : (low : ℕ) (ws : List ℕ) (bits w d i : ℕ) → low ≤ 0x101 → Gathered low ws bits i → i < length ws → w ≡ getD ws i 0
+    → (d + low) % 65536 ≡ w → d < 65536 → Gathered low ws (bitOr bits d) (i + 1)
+gather-turn low ws bits w d i f t h is e small =
+    subst (λ (x : Bool). Testing (isFrom low) ws x (i + 1)) (or-below bits d)
+    (test-turn (isFrom low) ws (ltb bits 0x200) (ltb d 0x200) i t h (above-from low w d f e small ∙ ap (isFrom low) is))

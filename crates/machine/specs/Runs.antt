@@ -1,9 +1,9 @@
 -- Runs of words that a phase takes with no report. No promise of a walk cites this; those of what the walks share do.
 -- Assumes nothing.
 use Prim.Native.Nat.{ℕ, suc, _+_, _-_, min}
-use mathlib.Core.Bool.{Bool, _&&_, _||_, not}
+use mathlib.Core.Bool.{Bool, _&&_, _||_}
 use mathlib.Core.List.{List, [], _∷_, map}
-use lib.Dec.{eqb, ltb}
+use lib.Dec.{eqb, leb, ltb}
 use lib.ListN.{length, take}
 use lib.Seq.{paste}
 use Rattle.lists.specs.Tests.{pick}
@@ -16,9 +16,13 @@ use Rattle.machine.specs.declared.phase.Phase.the-variants.{Idle, Kind, 
 abbrev pub stopsBy : ℕ → ℕ → Bool
 stopsBy mode w = isCode (classOf w) || (eqb mode 8 && isNull (classOf w))
 
--- a plain word, at which none ends: in 8-bit mode it is above 100h, and it is below 300h, where no code stands
+-- one of the 200h numbers from low on
+abbrev pub isFrom : ℕ → ℕ → Bool
+isFrom low w = leb low w && ltb w (low + 0x200)
+
+-- a plain word, at which none ends, is one of those from 101h on, in 9-bit mode from 100h on
 abbrev pub plainBy : ℕ → ℕ → Bool
-plainBy mode w = (not (eqb mode 8) || ltb 0x100 w) && ltb w 0x300
+plainBy mode = isFrom (pick (eqb mode 8) 0x101 0x100)
 
 -- how many words stand before the first at which a run ends
 unfoldable pub runOf : ℕ → List ℕ → ℕ

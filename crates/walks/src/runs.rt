@@ -3,6 +3,7 @@
 use machine::phase::Phase;
 use machine::runs;
 use machine::runs::Ran;
+use std::num;
 use words::forms;
 ghost use mathlib.Core.Path.{_≡_};
 ghost use mathlib.Core.Bool.{true};
@@ -12,28 +13,31 @@ ghost use lib.ListN.{length, drop};
 ghost use lib.Seq.{paste};
 ghost use Rattle.lists.specs.Lists.{each};
 ghost use Rattle.words.specs.Modes.{valueOf};
-ghost use Rattle.machine.specs.Runs.{plainBy, runOf, takenBy, ranPhase, ranRoom};
+ghost use Rattle.machine.specs.Runs.{isFrom, plainBy, runOf, takenBy, ranPhase, ranRoom};
 
-// Every word is plain: below 300h, where no code stands, and in 8-bit mode above 100h. It is asked of the lowest and the highest word, which the compiler
-// finds many at a time.
+// Every word is one of the 200h from low on. What each is above low is below 200h, or wraps and is not; so the bits of all are gathered, which the compiler
+// does many words at a time, and asked once.
+fn all_from(low: u16, words: &[u16]) -> bool
+    requires { ⌜ low ≤ 0x101 ⌝ }
+    ensures { λ r. ⌜ r ≡ each (isFrom low) (now (words .entry)) ⌝ }
+{
+    let mut bits = 0u16;
+    let mut i = 0;
+    while i < words.len() {
+        bits = bits | num::wrapping_sub_u16(words[i], low);
+        i += 1;
+    }
+    bits < 0x200
+}
+
+// Every word is plain. Each mode has a loop of its own, with the first plain word as a constant.
 fn all_plain(mode: u8, words: &[u16]) -> bool
     ensures { λ r. ⌜ r ≡ each (plainBy mode) (now (words .entry)) ⌝ }
 {
-    let low = if mode == 8 { 0x101 } else { 0 };
-    let mut lowest = 0xffffu16;
-    let mut highest = 0u16;
-    let mut i = 0;
-    while i < words.len() {
-        let w = words[i];
-        if w < lowest {
-            lowest = w;
-        }
-        if highest < w {
-            highest = w;
-        }
-        i += 1;
+    if mode == 8 {
+        return all_from(0x101, words);
     }
-    (low <= lowest) & (highest < 0x300)
+    all_from(0x100, words)
 }
 
 // How many words stand in whole chunks of n before the first chunk that is not plain.
