@@ -23,7 +23,7 @@ fn entry_end(at: usize, blocks: &[u8]) -> usize
     if left < 2 {
         return 0;
     }
-    let n = values::word_at(blocks, at + 1) as usize;
+    let n = octets::word_at(blocks, at + 1) as usize;
     if left - 2 < n {
         return 0;
     }
@@ -55,7 +55,7 @@ fn lay_each(w: Writer, blocks: &[u8], line: &mut [u16]) -> Batch
         }
         let from = 2 * at + 4;
         let to = 2 * e;
-        let kind = values::word_at(blocks, at);
+        let kind = octets::word_at(blocks, at);
         let x = adding::add_valued(now, kind, &blocks[from..to], line);
         let answer = x.answer;
         let state = x.state;

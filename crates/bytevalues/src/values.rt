@@ -2,18 +2,10 @@
 ghost use mathlib.Core.Path.{_≡_};
 ghost use Prim.Native.Nat.{_<_, _≤_};
 ghost use lib.Dec.{ltb};
-ghost use lib.ListN.{length, getD, take, replicate};
+ghost use lib.ListN.{length, take, replicate};
 ghost use Rattle.lists.specs.Lists.{each};
 ghost use Rattle.octets.specs.Bytes.{wordsOf};
 ghost use Rattle.bytevalues.specs.Standing.{standIn, standing};
-
-// Word i of the bytes.
-pub(crate) fn word_at(bytes: &[u8], i: usize) -> u16
-    requires { ⌜ i < length (wordsOf (now bytes)) ⌝ }
-    ensures { λ r. ⌜ r ≡ getD (wordsOf (now (bytes .entry))) i 0 ⌝ }
-{
-    bytes[2 * i] as u16 + bytes[2 * i + 1] as u16 * 256
-}
 
 // Each word is below the limit.
 fn all_below(limit: u16, bytes: &[u8]) -> bool
@@ -23,7 +15,7 @@ fn all_below(limit: u16, bytes: &[u8]) -> bool
     let mut ok = true;
     let mut i = 0;
     while i < n {
-        ok = ok & (word_at(bytes, i) < limit);
+        ok = ok & (octets::word_at(bytes, i) < limit);
         i += 1;
     }
     ok

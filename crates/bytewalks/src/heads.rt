@@ -1,5 +1,4 @@
 // A head over bytes: its six words are read, and asked as words are (machine's heads.rt).
-use crate::pairs;
 use machine::heads;
 use machine::phase::Phase;
 use machine::runs;
@@ -16,12 +15,12 @@ pub(crate) fn take_head(phase: Phase, words: &[u8], room: usize) -> Ran
         return runs::took(phase, 0);
     }
     let six = [
-        pairs::word_at(words, 0),
-        pairs::word_at(words, 1),
-        pairs::word_at(words, 2),
-        pairs::word_at(words, 3),
-        pairs::word_at(words, 4),
-        pairs::word_at(words, 5),
+        octets::word_at(words, 0),
+        octets::word_at(words, 1),
+        octets::word_at(words, 2),
+        octets::word_at(words, 3),
+        octets::word_at(words, 4),
+        octets::word_at(words, 5),
     ];
     heads::take_head(phase, &six, room)
 }

@@ -1,19 +1,11 @@
-// Words in bytes: two bytes a word, low byte first. No other file here reads or writes a byte.
+// Words in bytes: two bytes a word, low byte first. No other file here writes a byte.
 use words::forms;
 ghost use mathlib.Core.Path.{_≡_};
 ghost use mathlib.Core.List.{map};
 ghost use Prim.Native.Nat.{_<_};
-ghost use lib.ListN.{length, getD, set};
+ghost use lib.ListN.{length, set};
 ghost use Rattle.octets.specs.Bytes.{wordsOf};
 ghost use Rattle.words.specs.Modes.{valueOf};
-
-// The word at a place.
-pub(crate) fn word_at(bytes: &[u8], i: usize) -> u16
-    requires { ⌜ i < length (wordsOf (now bytes)) ⌝ }
-    ensures { λ r. ⌜ r ≡ getD (wordsOf (now (bytes .entry))) i 0 ⌝ }
-{
-    bytes[2 * i] as u16 + bytes[2 * i + 1] as u16 * 256
-}
 
 // A word put at a place.
 pub(crate) fn put_word(bytes: &mut [u8], i: usize, w: u16)
@@ -32,7 +24,7 @@ pub(crate) fn copy_values(mode: u8, words: &[u8], out: &mut [u8])
     let n = words.len() / 2;
     let mut i = 0;
     while i < n {
-        put_word(out, i, forms::value_of(mode, word_at(words, i)));
+        put_word(out, i, forms::value_of(mode, octets::word_at(words, i)));
         i += 1;
     }
 }

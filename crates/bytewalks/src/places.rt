@@ -27,7 +27,7 @@ fn has_null(words: &[u8]) -> bool
     let mut found = false;
     let mut i = 0;
     while i < n {
-        found = found | class::is_null(pairs::word_at(words, i));
+        found = found | class::is_null(octets::word_at(words, i));
         i += 1;
     }
     found
@@ -49,7 +49,7 @@ fn met_at(mode: u8, place: &[u8]) -> Met
     requires { ⌜ 1 ≤ length (wordsOf (now place)) ⌝ }
     ensures { λ r. ⌜ r ≡ metAt mode (wordsOf (now (place .entry))) ⌝ }
 {
-    let w = pairs::word_at(place, 0);
+    let w = octets::word_at(place, 0);
     if !forms::is_byte(w) {
         if class::bit_of(w) == class::NULL_BIT {
             return Met::Nothing;

@@ -24,7 +24,7 @@ fn all_plain(mode: u8, words: &[u8]) -> bool
     let mut bits = 0u16;
     let mut i = 0;
     while i < n {
-        bits = bits | num::wrapping_sub_u16(pairs::word_at(words, i), low);
+        bits = bits | num::wrapping_sub_u16(octets::word_at(words, i), low);
         i += 1;
     }
     bits < 0x200
@@ -56,7 +56,7 @@ fn run_by_words(mode: u8, words: &[u8]) -> usize
     let n = words.len() / 2;
     let mut i = 0;
     while i < n {
-        if runs::stops(mode, pairs::word_at(words, i)) {
+        if runs::stops(mode, octets::word_at(words, i)) {
             return i;
         }
         i += 1;

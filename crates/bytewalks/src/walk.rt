@@ -71,7 +71,7 @@ pub fn walk(mode: u8, phase: Phase, words: &[u8], room: &mut [u8]) -> Walked
                 taken: i,
             };
         }
-        let s = take_word(mode, q, pairs::word_at(words, i), room);
+        let s = take_word(mode, q, octets::word_at(words, i), room);
         i += 1;
         p = s.phase;
         let met = s.met;

@@ -2,20 +2,18 @@
 -- Assumes nothing.
 use mathlib.Core.Path.{_≡_, refl, sym, ap, ap₂, _∙_, subst}
 use mathlib.Core.Bool.{Bool, true, false}
-use mathlib.Core.List.{List, [], _∷_, _++_, append-nil}
+use mathlib.Core.List.{List, [], _++_, append-nil}
 use mathlib.Core.Logic.{⊎-elim}
-use Prim.Native.Nat.{ℕ, _+_, _-_, _≤_, _<_, min}
-use native.Mathlib.Nat.{zero-add}
+use Prim.Native.Nat.{ℕ, _+_, _-_, _≤_, _<_}
 use native.Mathlib.Omega.{arith}
 use lib.Dec.{eqb}
 use lib.ListN.{length, take, drop, replicate, drop-of-length-le}
 use lib.Seq.{paste, paste-zero, drop-at, take-all, length-paste, length-take-le}
-use borrow.Author.Tests.{eq-eqb, ne-eqb, eqb-true, eqb-false}
+use borrow.Author.Tests.{eqb-false}
 use Rattle.lists.specs.Tests.{pick}
 use Rattle.lists.proofs.Tests.{pick-true, pick-false}
-use Rattle.words.specs.Crc.{crcStart, crcOf, registerWords}
+use Rattle.words.specs.Crc.{crcOf, registerWords}
 use Rattle.course.specs.Course.{placeOf}
-use Rattle.course.specs.declared.Place.the-variants.{Shut}
 use Rattle.line.specs.declared.settings.Settings.{Settings}
 use Rattle.line.specs.declared.systems.System.{System}
 use Rattle.line.specs.Systems.{systemOf}
@@ -31,7 +29,7 @@ use Rattle.writer.specs.Answers.{Left, left, Added, added}
 use Rattle.writer.specs.Opening.{openFault, openWords, opening}
 use Rattle.writer.specs.Adding.{addFault, todo, fitting, adding}
 use Rattle.writer.specs.Packing.{packFault, packing}
-use Rattle.writer.specs.Closing.{closeFault, endBy, sealed, closing}
+use Rattle.writer.specs.Closing.{closeFault, sealed, closing}
 use Rattle.writer.proofs.Keeps.{open-leaves, close-leaves, add-leaves, add-stays}
 use Rattle.writer.proofs.Packs.{can-pack, packs-in, pack-leaves, pack-stays}
 use Rattle.writer.proofs.Refusals.{can-add, can-close}
@@ -39,7 +37,7 @@ use Rattle.writer.proofs.StateLaws.{not-opened}
 use Rattle.writer.proofs.Calls.{close-refused, seal-none}
 use Rattle.writer.proofs.Writing.{either}
 use Rattle.bytewriter.specs.Laid.{doneIn}
-use Rattle.bytewriter.proofs.Over.{pasted-over, paste-front, at, on, over, Moves, stays, over-none}
+use Rattle.bytewriter.proofs.Over.{pasted-over, paste-front, at, over, Moves, stays, over-none}
 
 -- ---- opening writes every word
 abbrev pub opens : List ℕ → ℕ → Left → Left

@@ -1,13 +1,13 @@
 -- What a call lays does not depend on the words of the line, only on its length: laid on one line and put over another, it is what the same call lays on the other.
 -- Assumes nothing.
-use mathlib.Core.Path.{_≡_, refl, sym, ap, ap₂, _∙_, subst}
-use mathlib.Core.List.{List, [], _∷_, _++_, append-assoc}
+use mathlib.Core.Path.{_≡_, refl, sym, ap, ap₂, _∙_}
+use mathlib.Core.List.{List, _++_, append-assoc}
 use mathlib.Core.Logic.{⊎-elim}
-use Prim.Native.Nat.{ℕ, zero, suc, _+_, _-_, _≤_, _<_, min}
+use Prim.Native.Nat.{ℕ, _+_, _-_, _≤_, _<_}
 use native.Mathlib.Nat.{add-zero, zero-add, add-assoc}
 use native.Mathlib.Omega.{arith}
-use lib.ListN.{length, take, drop, length-take, length-drop}
-use lib.Seq.{paste, paste-zero, take-take, take-at, drop-at, drop-drop, length-take-le, length-paste, take-paste, drop-paste}
+use lib.ListN.{length, take, drop, length-drop}
+use lib.Seq.{paste, paste-zero, take-take, take-at, drop-at, drop-drop, length-take-le, take-paste, drop-paste}
 use Rattle.lists.proofs.Tests.{lt-or-le}
 use Rattle.lists.proofs.Lists.{part-add, inside}
 use Rattle.course.specs.Course.{placeOf}

@@ -1,13 +1,12 @@
 -- A small block of a fixed line: laid into a place of its own, its words go back to the line.
 -- Assumes nothing.
-use mathlib.Core.Path.{_≡_, refl, sym, ap, ap₂, _∙_}
-use mathlib.Core.Bool.{Bool, true, false, _&&_, not}
-use mathlib.Core.List.{List, [], _++_, append-assoc}
+use mathlib.Core.Path.{_≡_, sym, ap, ap₂, _∙_}
+use mathlib.Core.Bool.{true, false, not}
+use mathlib.Core.List.{List, _++_, append-assoc}
 use mathlib.Core.Logic.{⊎-elim}
 use Prim.Native.Nat.{ℕ, _+_, _-_, _*_, _/_, _%_, _≤_, _<_, min}
 use native.Mathlib.Nat.{le-refl}
 use native.Mathlib.Omega.{arith}
-use lib.Dec.{eqb}
 use lib.ListN.{length, take, drop, length-take, length-drop, length-replicate, length-append}
 use lib.Seq.{paste, take-take, take-at, drop-at, length-take-le, length-paste}
 use borrow.Author.Tests.{eq-eqb, eqb-true}
@@ -33,8 +32,8 @@ use Rattle.writer.proofs.Keeps.{add-stays}
 use Rattle.writer.proofs.Pieces.{fixed-once}
 use Rattle.writer.proofs.Writing.{either}
 use Rattle.bytewriter.specs.Bytewise.{addBytes}
-use Rattle.bytewriter.proofs.Over.{pasted-over, at, on, Moves}
-use Rattle.bytewriter.proofs.Calls.{adds, add-over, add-moves}
+use Rattle.bytewriter.proofs.Over.{pasted-over, at, on}
+use Rattle.bytewriter.proofs.Calls.{add-over, add-moves}
 use Rattle.bytewriter.proofs.Unlent.{out-added}
 
 -- ---- lengths

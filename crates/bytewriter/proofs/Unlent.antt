@@ -1,16 +1,15 @@
 -- A line that is lent as bytes: odd or too long, it is refused with 1; else the call on its words is what was laid on another line as long, put over them.
 -- Assumes nothing.
-use mathlib.Core.Path.{_≡_, refl, sym, ap, ap₂, _∙_}
+use mathlib.Core.Path.{_≡_, refl, sym, ap, _∙_}
 use mathlib.Core.Bool.{Bool, true, false, _&&_, _||_, not}
 use mathlib.Core.List.{List}
-use Prim.Native.Nat.{ℕ, _+_, _-_, _*_, _/_, _%_, _≤_, _<_}
+use Prim.Native.Nat.{ℕ, _%_, _<_}
 use native.Mathlib.Omega.{arith}
-use lib.Dec.{eqb, leb}
-use lib.ListN.{length, getD, drop}
-use lib.Seq.{paste}
-use borrow.Author.Tests.{ne-eqb, leb-false, leb-true, eqb-true}
+use lib.Dec.{leb}
+use lib.ListN.{length, getD}
+use borrow.Author.Tests.{ne-eqb, leb-false, eqb-true}
 use Rattle.lists.specs.Tests.{pick}
-use Rattle.lists.proofs.Tests.{pick-true, and-none, and-true, both-true, true-false}
+use Rattle.lists.proofs.Tests.{and-none, true-false}
 use Rattle.lists.proofs.Refusals.{LowestOf, low-hit}
 use Rattle.words.specs.Modes.{isMode}
 use Rattle.line.specs.declared.settings.Settings.{Settings}
@@ -21,11 +20,8 @@ use Rattle.octets.specs.Bytes.{wordsOf, bytesOf, isEven}
 use Rattle.octets.proofs.BytesLaws.{length-words}
 use Rattle.octets.proofs.BytesLaws.{bytes-back}
 use Rattle.writer.specs.declared.state.Writer.{Writer}
-use Rattle.writer.specs.declared.state.Answer.{Answer}
 use Rattle.writer.specs.declared.state.Answer.the-variants.{Refused}
-use Rattle.writer.specs.declared.state.Laid.{Laid}
 use Rattle.writer.specs.declared.state.Laid.the-variants.{Refused as NotLaid}
-use Rattle.writer.specs.declared.batch.Stop.{Stop}
 use Rattle.writer.specs.declared.batch.Stop.the-variants.{Refused as Stopped}
 use Rattle.writer.specs.Answers.{Left, left, Added, added}
 use Rattle.writer.specs.Opening.{openFaults, openFault, opening}

@@ -1,9 +1,9 @@
 -- The answers of the library's calls, by their 1 and 2: where one of these holds it is the answer, and where none does the answer is neither. So a call from C can ask 1 and 2 first,
 -- and needs no look at what the call said. Assumes nothing.
 use Prim.Native.Nat.{ℕ, zero, suc, _+_, _/_, _≤_, _<_}
-use mathlib.Core.Bool.{Bool, true, false, not, _||_, _&&_}
+use mathlib.Core.Bool.{Bool, true, false, not, _||_}
 use mathlib.Core.Logic.{_⊎_, inl, inr, ⊎-elim}
-use mathlib.Core.List.{List, [], _∷_, _++_}
+use mathlib.Core.List.{List, [], _∷_}
 use mathlib.Core.Path.{_≡_, refl, sym, ap, ap₂, _∙_, subst}
 use native.Mathlib.Omega.{arith}
 use lib.Dec.{eqb}
@@ -11,7 +11,7 @@ use lib.ListN.{length, drop}
 use lib.Seq.{length-paste}
 use borrow.Author.Tests.{ne-eqb, eqb-true, eq-eqb}
 use Rattle.lists.specs.Tests.{pick, Refusal, when, lowestOf, risingFrom}
-use Rattle.lists.proofs.Tests.{pick-true, pick-false, pick-elim, true-false}
+use Rattle.lists.proofs.Tests.{pick-true, pick-false, pick-elim}
 use Rattle.lists.proofs.Refusals.{Clear, clear-lowest, lowest-clear, lowest-or}
 use Rattle.line.specs.declared.settings.Settings.{Settings}
 use Rattle.line.specs.Systems.{systemOf}
@@ -27,16 +27,12 @@ use Rattle.machine.specs.declared.step.Met.{Met}
 use Rattle.machine.specs.declared.step.Met.the-variants.{Nothing, Whole, Lost}
 use Rattle.reader.specs.declared.state.Reader.{Reader}
 use Rattle.reader.specs.State.{capacity}
-use Rattle.reader.specs.Reading.{Reply, begun, reading, readFaultIn, readFault, readFrom, walkFrom, toldBy}
+use Rattle.reader.specs.Reading.{Reply, begun, reading, readFaultIn, readFault, walkFrom, toldBy}
 use Rattle.reader.proofs.AtCapacity.{ready, by-place, accepts, refuses}
 use Rattle.reader.proofs.ReadLaws.{read-refused}
-use Rattle.reader.specs.declared.state.Event.{Event}
-use Rattle.reader.specs.declared.within.Report.{Report}
-use Rattle.reader.specs.declared.within.Report.the-variants.{Paused, Told}
 use Rattle.reader.specs.declared.within.Within.{Within}
 use Rattle.reader.specs.Within.{Sliced, unitOf, walkWithin, isPause, goesWithin, withinFrom, withinIn, within}
 use Rattle.writer.specs.declared.state.Writer.{Writer}
-use Rattle.writer.specs.declared.state.Answer.{Answer}
 use Rattle.writer.specs.declared.state.Laid.{Laid}
 use Rattle.writer.specs.declared.state.Laid.the-variants.{Refused as NotLaid, Finished, Unfinished}
 use Rattle.writer.specs.Answers.{Left, Added}
@@ -101,12 +97,6 @@ module _ {A : Type 0} (refused : ℕ → A) (done : A) (shaped image : Bool) (n 
 
     pub let-through : k ≡ 0 → done ≡ pick (eqb (refusal shaped image n) 0) done (refused (refusal shaped image n))
     let-through h = sym (pick-true _ _ (eq-eqb (refusal shaped image n) 0 (same ∙ h)))
-
--- 1 for an odd buffer stands before all that the call answers
-pub by-even : (b : Bool) (f n : ℕ) → AnswersBy f n → AnswersBy (pick b f 1) (pick b n 1)
-unfolding pick
-by-even true f n a = a
-by-even false f n a = record { few = omega arith; refused = λ h. refl; goes = λ e. absurd (omega (arith, e)) }
 
 -- ---- reading
 -- 1, 2 or neither

@@ -188,6 +188,12 @@ filled n lent s i h e = e ∙ pick-true _ _ (eq-eqb (length lent) n h)
 abbrev pub shaped : List ℕ → List ℕ → Bool
 shaped state event = eqb (length state) imageLength && eqb (length event) eventLength
 
+-- buffers of the right lengths, the state that the image spells, and whether it is one
+pub record Spelt (state event : List ℕ) (st : Reader) (is : Bool) : Type 0 where
+  pub right : shaped state event ≡ true
+  pub spelt : st ≡ readerFrom state
+  pub shown : is ≡ isReader state
+
 -- an image that no state gives is never 0
 never-0 : (f : ℕ) → earlyBy false f ≡ 0 → ⊥
 unfolding earlyBy pick
@@ -229,29 +235,23 @@ module _ (a : ℕ) (state line room event : List ℕ) where
   unfolding kept
   read-wrong s = misshaped kept _ (shaped state event) (isReader state) answers s
 
-  -- the image copied, the state that it spells, and whether it is one
-  module _ {image : List ℕ} {st : Reader} {is : Bool} (right : shaped state event ≡ true) (copied : image ≡ state) (spelt : st ≡ readerFrom image) (shown : is ≡ isReader image) where
-    same-reader : st ≡ readerFrom state
-    same-reader = spelt ∙ ap readerFrom copied
-
+  module _ {st : Reader} {is : Bool} (k : Spelt state event st is) where
     same-fault : bytesFault st (length line) (length room) ≡ bytesFault (readerFrom state) (length line) (length room)
-    same-fault = ap (λ (x : Reader). bytesFault x (length line) (length room)) same-reader
+    same-fault = ap (λ (x : Reader). bytesFault x (length line) (length room)) (k .spelt)
 
-    pub read-no : is ≡ false → {fault k : ℕ} → fault ≡ bytesFault st (length line) (length room) → k ≡ earlyBy false fault → gave k state room event ≡ within-read
+    pub read-no : is ≡ false → {fault n : ℕ} → fault ≡ bytesFault st (length line) (length room) → n ≡ earlyBy false fault → gave n state room event ≡ within-read
     unfolding kept
-    read-no isnt {fault} {k} asked early =
-        let e : k ≡ earlyBy (isReader state) (bytesFault (readerFrom state) (length line) (length room)) =
-        early ∙ ap₂ earlyBy (sym isnt ∙ shown ∙ ap isReader copied) (asked ∙ same-fault)
-        in
-        turned-away kept _ (shaped state event) (isReader state) answers right _ (within-bytes-answers (readerFrom state) line room a) k e (λ z. never-0 fault (sym early ∙ z))
+    read-no isnt {fault} {n} asked early =
+        let e : n ≡ earlyBy (isReader state) (bytesFault (readerFrom state) (length line) (length room)) = early ∙ ap₂ earlyBy (sym isnt ∙ k .shown) (asked ∙ same-fault) in
+        turned-away kept _ (shaped state event) (isReader state) answers (k .right) _ (within-bytes-answers (readerFrom state) line room a) n e (λ z. never-0 fault (sym early ∙ z))
 
     -- the call made: what it left, y, and the room
     module _ (holds : is ≡ true) (y : Within) (room′ : List ℕ) (did : sliced y room′ ≡ withinBytes a st line room) where
       left-is : sliced y room′ ≡ leaves
-      left-is = did ∙ ap (λ (x : Reader). withinBytes a x line room) same-reader
+      left-is = did ∙ ap (λ (x : Reader). withinBytes a x line room) (k .spelt)
 
       image-is : isReader state ≡ true
-      image-is = sym (shown ∙ ap isReader copied) ∙ holds
+      image-is = sym (k .shown) ∙ holds
 
       -- 1 or 2, which leaves the room
       pub read-barred : true ≡ not (eqb (bytesFault st (length line) (length room)) 0) → room′ ≡ room → {r : ℕ} → r ≡ reportAnswer (y .report) → gave r state room′ event ≡ within-read
@@ -263,7 +263,7 @@ module _ (a : ℕ) (state line room event : List ℕ) where
           let is-f : r ≡ f = answered ∙ ap (λ (x : Sliced). reportAnswer (x .answer .report)) left-is ∙ by .refused some in
           let e : r ≡ earlyBy (isReader state) f = is-f ∙ sym (of-state f) ∙ ap (λ (b : Bool). earlyBy b f) (sym image-is) in
           ap (λ (q : List ℕ). gave r state q event) back
-          ∙ turned-away kept _ (shaped state event) (isReader state) answers right _ by r e (λ z. some (sym is-f ∙ z))
+          ∙ turned-away kept _ (shaped state event) (isReader state) answers (k .right) _ by r e (λ z. some (sym is-f ∙ z))
 
       -- or what the call leaves, written
       pub read-served : false ≡ not (eqb (bytesFault st (length line) (length room)) 0) → {r : ℕ} {s e : List ℕ} → r ≡ reportAnswer (y .report) → s ≡ readerBytes (y .state)
@@ -277,14 +277,13 @@ module _ (a : ℕ) (state line room event : List ℕ) where
           ap₂ (λ (n : ℕ) (l : List ℕ). gave n l room′ e) answered put
           ∙ ap (λ (l : List ℕ). gave (reportAnswer (y .report)) (readerBytes (y .state)) room′ l) told
           ∙ ap (λ (x : Sliced). gave (reportAnswer (x .answer .report)) (readerBytes (x .answer .state)) (x .room) (eventImage (x .answer .report) (x .answer .consumed))) left-is
-          ∙ let-through kept _ (shaped state event) (isReader state) answers right _ by 0 z refl
+          ∙ let-through kept _ (shaped state event) (isReader state) answers (k .right) _ by 0 z refl
 
 -- an image in which only place and phase are others is that of the state that a call on a begun line leaves
-pub moves : (state : List ℕ) {image : List ℕ} {st : Reader} {is : Bool} → image ≡ state → st ≡ readerFrom image → is ≡ isReader image → is ≡ true → (w : Went)
+pub moves : {state event : List ℕ} {st : Reader} {is : Bool} → Spelt state event st is → is ≡ true → (w : Went)
     → moved (w .place) (w .phase) state ≡ readerBytes (wentOf st w .state)
-moves state copied spelt shown holds w =
-    moved-image state (sym (shown ∙ ap isReader copied) ∙ holds) (w .place) (w .phase)
-    ∙ ap (λ (x : Reader). readerBytes (wentOf x w .state)) (sym (spelt ∙ ap readerFrom copied))
+moves {state} k holds w =
+    moved-image state (sym (k .shown) ∙ holds) (w .place) (w .phase) ∙ ap (λ (x : Reader). readerBytes (wentOf x w .state)) (sym (k .spelt))
 
 -- ---- without allowance
 -- an early answer is 0, 1 or 2; and where it is 0, lengths are in order and the call's answer is neither 1 nor 2

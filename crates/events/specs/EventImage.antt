@@ -4,11 +4,10 @@
 -- Assumes nothing.
 use Prim.Native.Nat.{ℕ, suc}
 use mathlib.Core.Bool.{Bool, true, false}
-use mathlib.Core.List.{List, [], _∷_, _++_}
-use lib.IntN.{ℤ, pos, negsuc}
+use mathlib.Core.List.{List, _∷_, _++_}
+use lib.IntN.{pos, negsuc}
 use Rattle.reader.specs.declared.jump.Jump.{Jump}
 use Rattle.reader.specs.declared.jump.Jump.the-variants.{Unknown, Known}
-use Rattle.reader.specs.declared.state.Event.{Event}
 use Rattle.reader.specs.declared.state.Event.the-variants.{Refused, Begun, Block, Drop, End}
 use Rattle.reader.specs.declared.within.Report.{Report}
 use Rattle.reader.specs.declared.within.Report.the-variants.{Paused, Told}

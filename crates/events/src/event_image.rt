@@ -1,11 +1,9 @@
 // What a reading call reports, as 32 bytes.
-use fields::joins;
 use fields::numbers;
 use reader::jump::Jump;
 use reader::state::Event;
 use reader::within::Report;
 ghost use mathlib.Core.Path.{_≡_};
-ghost use lib.IntN.{natAbs};
 ghost use mathlib.Core.List.{_∷_};
 ghost use lib.Dec.{eqb};
 ghost use lib.ListN.{length};
@@ -20,23 +18,13 @@ fn flag_byte(flag: bool) -> u8
     if flag { 1 } else { 0 }
 }
 
-// How far from 0. The least number has no opposite in 32 bits.
-fn size(d: i32) -> usize
-    ensures { λ r. ⌜ r ≡ natAbs d ⌝ }
-{
-    if d < 0 {
-        return (0 - d as i64) as usize;
-    }
-    d as usize
-}
-
 // The jump's size, 0 where it is unknown.
 fn size_of_jump(jump: Jump) -> usize
     ensures { λ r. ⌜ r ≡ sizeOfJump jump ⌝ }
 {
     match jump {
         Jump::Unknown => 0,
-        Jump::Known(d) => size(d),
+        Jump::Known(d) => lists::size(d),
     }
 }
 
@@ -77,7 +65,7 @@ fn put_kind(kind: u8, dropped: u8, jump: Jump, number: u16, out: &mut [u8])
 {
     let known = is_known(jump);
     let behind = is_behind(jump);
-    joins::put_bytes(&[kind, dropped, known, behind], &mut out[..4]);
+    lists::copy_bytes(&[kind, dropped, known, behind], &mut out[..4]);
     numbers::put_number(number as usize, &mut out[4..8]);
 }
 
@@ -100,19 +88,24 @@ fn put_fields(
     numbers::put_eights(long, consumed, &mut out[16..32]);
 }
 
+// One that tells a number at most, and whether an open block was dropped.
+fn put_number(kind: u8, dropped: u8, number: u16, consumed: usize, out: &mut [u8])
+    requires { ⌜ length (now out) ≡ 32 ⌝ }
+    ensures { λ _. ⌜ now (out .exit) ≡ eventFields kind dropped Jump.Unknown number 0 0 consumed ⌝ }
+{
+    put_fields(kind, dropped, Jump::Unknown, number, 0, 0, consumed, out);
+}
+
 // The image of an event.
 fn put_told(event: Event, consumed: usize, out: &mut [u8])
     requires { ⌜ length (now out) ≡ 32 ⌝ }
     ensures { λ _. ⌜ now (out .exit) ≡ eventImage (Report.Told event) consumed ⌝ }
 {
     match event {
-        Event::Refused { answer, dropped } => put_fields(
+        Event::Refused { answer, dropped } => put_number(
             0,
             flag_byte(dropped),
-            Jump::Unknown,
             answer as u16,
-            0,
-            0,
             consumed,
             out,
         ),
@@ -131,17 +124,8 @@ fn put_told(event: Event, consumed: usize, out: &mut [u8])
             consumed,
             out,
         ),
-        Event::Drop { reason } => put_fields(
-            3,
-            0,
-            Jump::Unknown,
-            reason as u16,
-            0,
-            0,
-            consumed,
-            out,
-        ),
-        Event::End => put_fields(4, 0, Jump::Unknown, 0, 0, 0, consumed, out),
+        Event::Drop { reason } => put_number(3, 0, reason as u16, consumed, out),
+        Event::End => put_number(4, 0, 0, consumed, out),
     }
 }
 
@@ -153,7 +137,7 @@ pub fn put_event(report: Report, consumed: usize, out: &mut [u8])
         return;
     }
     match report {
-        Report::Paused => put_fields(5, 0, Jump::Unknown, 0, 0, 0, consumed, out),
+        Report::Paused => put_number(5, 0, 0, consumed, out),
         Report::Told(event) => put_told(event, consumed, out),
     }
 }

@@ -2,9 +2,9 @@
 -- Assumes nothing.
 use mathlib.Core.Path.{_≡_, refl, sym, ap, ap₂, _∙_}
 use mathlib.Core.List.{List, [], _∷_, _++_, append-assoc, append-nil}
-use Prim.Native.Nat.{ℕ, _+_, _-_, _≤_}
+use Prim.Native.Nat.{ℕ, _+_, _≤_}
 use native.Mathlib.Omega.{arith}
-use lib.ListN.{length, getD, take, drop, length-append, length-drop, drop-of-length-le}
+use lib.ListN.{length, getD, take, drop, replicate, length-replicate, length-append, length-drop, drop-of-length-le}
 use lib.Seq.{take-at, drop-at, drop-drop, length-take-le}
 use lib.Dec.{eqb}
 use borrow.Author.Tests.{eq-eqb}
@@ -12,6 +12,7 @@ use borrow.Rule.Slice.PartMut.{putMid}
 use Rattle.lists.specs.Lists.{part}
 use Rattle.lists.specs.Tests.{pick}
 use Rattle.lists.proofs.Lists.{length-part}
+use Rattle.lists.proofs.Loops.{copied}
 use Rattle.lists.proofs.Tests.{pick-true}
 use Rattle.line.specs.declared.settings.Settings.{Settings}
 use Rattle.course.specs.declared.Last.{Last}
@@ -19,45 +20,32 @@ use Rattle.course.specs.declared.Last.the-variants.{Unknown, Number}
 use Rattle.fields.specs.Fields.{bytesFor, settingsBytes}
 use Rattle.fields.specs.Frame.{lastBytes}
 
--- a stands in front, and what was lent behind it is y
-pub joined : (a b out x y : List ℕ) → x ≡ a → y ≡ b → putMid (length a) (length (x ++ drop (length a) out) - length a) (x ++ drop (length a) out) y ≡ a ++ b
-joined a b out x y e f =
-    let n = length a in
-    let xs = x ++ drop n out in
-    let front : take n xs ≡ a = take-at x (drop n out) n (ap length e) ∙ e in
-    let none : drop (length xs - n) (drop n xs) ≡ [] = drop-of-length-le (drop n xs) {i = length xs - n} (omega (arith, length-drop n xs)) in
-    ap₂ (λ (p q : List ℕ). p ++ (y ++ q)) front none ∙ ap (λ (z : List ℕ). a ++ z) (append-nil y ∙ f)
+-- one part more, behind what is laid
+laid-next : (n k : ℕ) (p c rest z : List ℕ) → length p ≡ n → z ≡ c → putMid n k (p ++ rest) z ≡ (p ++ c) ++ drop k rest
+laid-next n k p c rest z h e =
+    ap₂ (λ (q r : List ℕ). q ++ (z ++ drop k r)) (take-at p rest n h) (drop-at p rest n h)
+    ∙ ap (λ (q : List ℕ). p ++ (q ++ drop k rest)) e
+    ∙ sym (append-assoc p c (drop k rest))
 
--- the second part ends where it is said to
-pub laid-two : (n m : ℕ) (a b out x y : List ℕ) → length out ≡ n + m → length a ≡ n → x ≡ a → y ≡ b → putMid n m (x ++ drop n out) y ≡ a ++ b
-laid-two n m a b out x y l h e f =
-    let xs = x ++ drop n out in
-    let long = ap length e ∙ h in
-    let front : take n xs ≡ a = take-at x (drop n out) n long ∙ e in
-    let none : drop m (drop n xs) ≡ [] = ap (drop m) (drop-at x (drop n out) n long) ∙ drop-of-length-le (drop n out) {i = m} (omega (arith, length-drop n out, l)) in
-    ap₂ (λ (p q : List ℕ). p ++ (y ++ q)) front none ∙ ap (λ (z : List ℕ). a ++ z) (append-nil y ∙ f)
+-- the last one, which fills what is lent
+laid-last : (n k : ℕ) (p c rest z : List ℕ) → length p ≡ n → length rest ≡ k → z ≡ c → putMid n k (p ++ rest) z ≡ p ++ c
+laid-last n k p c rest z h l e =
+    laid-next n k p c rest z h e ∙ ap (λ (q : List ℕ). (p ++ c) ++ q) (drop-of-length-le rest {i = k} (omega (arith, l))) ∙ append-nil (p ++ c)
 
 -- two parts, and what was lent behind them
 two-laid : (n m : ℕ) (a b out x y : List ℕ) → length a ≡ n → x ≡ a → y ≡ b → putMid n m (x ++ drop n out) y ≡ (a ++ b) ++ drop m (drop n out)
-two-laid n m a b out x y h e f =
-    let rest = drop m (drop n out) in
-    let long = ap length e ∙ h in
-    let front : take n (x ++ drop n out) ≡ a = take-at x (drop n out) n long ∙ e in
-    let behind : drop m (drop n (x ++ drop n out)) ≡ rest = ap (drop m) (drop-at x (drop n out) n long) in
-    ap₂ (λ (p q : List ℕ). p ++ (y ++ q)) front behind ∙ ap (λ (p : List ℕ). a ++ (p ++ rest)) f ∙ sym (append-assoc a b rest)
+two-laid n m a b out x y h e f = ap (λ (p : List ℕ). putMid n m (p ++ drop n out) y) e ∙ laid-next n m a b (drop n out) y h f
 
--- and a third behind these
+-- two parts, which fill what is lent; and three
+pub laid-two : (n m : ℕ) (a b out x y : List ℕ) → length out ≡ n + m → length a ≡ n → x ≡ a → y ≡ b → putMid n m (x ++ drop n out) y ≡ a ++ b
+laid-two n m a b out x y l h e f =
+    ap (λ (p : List ℕ). putMid n m (p ++ drop n out) y) e ∙ laid-last n m a b (drop n out) y h (omega (arith, length-drop n out, l)) f
+
 pub laid-three : (n m k : ℕ) (a b c out x y z : List ℕ) → length out ≡ n + (m + k) → length a ≡ n → length b ≡ m → x ≡ a → y ≡ b → z ≡ c
     → putMid (n + m) k (putMid n m (x ++ drop n out) y) z ≡ a ++ (b ++ c)
 laid-three n m k a b c out x y z l ha hb e f g =
-    let rest = drop m (drop n out) in
-    let two : length (a ++ b) ≡ n + m = length-append a b ∙ ap₂ (λ (p q : ℕ). p + q) ha hb in
-    let none : drop k (drop (n + m) ((a ++ b) ++ rest)) ≡ [] =
-    ap (drop k) (drop-at (a ++ b) rest (n + m) two) ∙ drop-of-length-le rest {i = k} (omega (arith, length-drop m (drop n out), length-drop n out, l))
-    in
     ap (λ (p : List ℕ). putMid (n + m) k p z) (two-laid n m a b out x y ha e f)
-    ∙ ap₂ (λ (p q : List ℕ). p ++ (z ++ q)) (take-at (a ++ b) rest (n + m) two) none
-    ∙ ap (λ (p : List ℕ). (a ++ b) ++ p) (append-nil z ∙ g)
+    ∙ laid-last (n + m) k (a ++ b) c (drop m (drop n out)) z (length-append a b ∙ ap₂ (λ (p q : ℕ). p + q) ha hb) (omega (arith, length-drop m (drop n out), length-drop n out, l)) g
     ∙ append-assoc a b c
 
 -- ---- what is laid only where its part is as long: the first part, the second and the third are
@@ -78,6 +66,39 @@ third-laid n m k a b c out x y z l ha hb e f g =
     let long : length all ≡ length (a ++ b) + length rest = ap length (two-laid n m a b out x y ha e f) ∙ length-append (a ++ b) rest in
     let both : length (a ++ b) ≡ n + m = length-append a b ∙ ap₂ (λ (p q : ℕ). p + q) ha hb in
     g ∙ pick-true _ _ (eq-eqb _ _ (length-part (n + m) k all (omega (arith, long, both, l, length-drop m (drop n out), length-drop n out))))
+
+-- four parts, each copied to its own, which is as long
+pub laid-four : (n m k j : ℕ) (a b c d out x y z w : List ℕ) → length out ≡ n + (m + (k + j)) → length a ≡ n → length b ≡ m → length c ≡ k → length d ≡ j
+    → let one = x ++ drop n out in
+    let two = putMid n m one y in
+    let three = putMid (n + m) k two z in
+    x ≡ pick (eqb (length (take n out)) (length a)) a (take n out) → y ≡ pick (eqb (length (part n m one)) (length b)) b (part n m one)
+    → z ≡ pick (eqb (length (part (n + m) k two)) (length c)) c (part (n + m) k two)
+    → w ≡ pick (eqb (length (part (n + m + k) j three)) (length d)) d (part (n + m + k) j three) → putMid (n + m + k) j three w ≡ a ++ (b ++ (c ++ d))
+laid-four n m k j a b c d out x y z w l ha hb hc hd ex ey ez ew =
+    let long : (p r : List ℕ) (i q : ℕ) (t u : List ℕ) → t ≡ p ++ r → length p ≡ i → q ≤ length r → length u ≡ q → length (part i q t) ≡ length u =
+    (λ p r i q t u is hp hr hu. length-part i q t (omega (arith, ap length is, length-append p r, hp, hr)) ∙ sym hu)
+    in
+    let first : x ≡ a = copied a (take n out) x (long [] out 0 n out a refl refl (omega (arith, l)) ha) ex in
+    let rest = drop n out in
+    let one : x ++ rest ≡ a ++ rest = ap (λ (p : List ℕ). p ++ rest) first in
+    let second : y ≡ b = copied b (part n m (x ++ rest)) y (long a rest n m (x ++ rest) b one ha (omega (arith, l, length-drop n out)) hb) ey in
+    let two : putMid n m (x ++ rest) y ≡ (a ++ b) ++ drop m rest = two-laid n m a b out x y ha first second in
+    let sum : length (a ++ b) ≡ n + m = length-append a b ∙ ap₂ (λ (p q : ℕ). p + q) ha hb in
+    let more = drop m rest in
+    let third : z ≡ c = copied c (part (n + m) k (putMid n m (x ++ rest) y)) z (long (a ++ b) more (n + m) k _ c two sum (omega (arith, l, length-drop n out, length-drop m rest)) hc) ez in
+    let three = ap (λ (p : List ℕ). putMid (n + m) k p z) two ∙ laid-next (n + m) k (a ++ b) c more z sum third in
+    let all : length ((a ++ b) ++ c) ≡ n + m + k = length-append (a ++ b) c ∙ ap₂ (λ (p q : ℕ). p + q) sum hc in
+    let left : length (drop k more) ≡ j = omega (arith, l, length-drop n out, length-drop m rest, length-drop k more) in
+    let fourth : w ≡ d = copied d (part (n + m + k) j (putMid (n + m) k (putMid n m (x ++ rest) y) z)) w (long ((a ++ b) ++ c) (drop k more) (n + m + k) j _ d three all (omega (arith, left)) hd) ew in
+    ap (λ (p : List ℕ). putMid (n + m + k) j p w) three
+    ∙ laid-last (n + m + k) j ((a ++ b) ++ c) d (drop k more) w all left fourth
+    ∙ append-assoc (a ++ b) c d
+    ∙ append-assoc a b (c ++ d)
+
+-- a part of b, copied to an array of its length
+pub part-copied : (a n : ℕ) (b x : List ℕ) → a + n ≤ length b → x ≡ pick (eqb (length {A = ℕ} (replicate n 0)) (length (part a n b))) (part a n b) (replicate n 0) → x ≡ part a n b
+part-copied a n b x h e = copied (part a n b) (replicate n 0) x (length-replicate n 0 ∙ sym (length-part a n b h)) e
 
 -- a part in the middle
 pub laid-mid : (n m : ℕ) (a out x : List ℕ) → x ≡ a → putMid n m out x ≡ take n out ++ (a ++ drop (n + m) out)

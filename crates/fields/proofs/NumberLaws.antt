@@ -9,11 +9,11 @@ use native.Mathlib.Omega.{arith}
 use lib.Dec.{eqb, leb}
 use lib.ListN.{length, getD, take, drop, set, replicate, drop-of-length-le, length-append, length-drop}
 use lib.Seq.{length-take-le}
-use borrow.Author.Tests.{lt-ltb, ltb-true, le-leb, eqb-true, eq-eqb}
+use borrow.Author.Tests.{ltb-true, le-leb, eqb-true, eq-eqb}
 use Rattle.lists.specs.Lists.{each, part, same}
 use Rattle.lists.specs.Tests.{pick}
 use Rattle.lists.proofs.Lists.{length-part, same-eq, eq-same}
-use Rattle.lists.proofs.Tests.{both-true, and-true, true-false, pick-true}
+use Rattle.lists.proofs.Tests.{both-true, true-false, pick-true}
 use Rattle.lists.proofs.Loops.{Filling, fill-start, fill-turn, next-drop}
 use Rattle.line.specs.Settings.{small}
 use Rattle.fields.specs.Fields.{bytesFor, numberFrom}
@@ -22,11 +22,6 @@ pub length-bytes : (k n : ℕ) → length (bytesFor k n) ≡ k
 unfolding bytesFor
 length-bytes zero n = refl
 length-bytes (suc k) n = ap suc (length-bytes k (n / 256))
-
-pub bytes-small : (k n : ℕ) → each small (bytesFor k n) ≡ true
-unfolding bytesFor
-bytes-small zero n = refl
-bytes-small (suc k) n = and-true (lt-ltb (n % 256) 256 (omega arith)) (bytes-small k (n / 256))
 
 -- ---- there and back
 pub number-bytes : (k n : ℕ) → n < 256 ^ k → numberFrom (bytesFor k n) ≡ n
@@ -164,19 +159,15 @@ spell-end b x i s h =
 pub part-less : (b : List ℕ) (a k x : ℕ) → a + k ≤ length b → x < 256 ^ length (part a k b) → x < 256 ^ k
 part-less b a k x h l = rw (length-part a k b h) at l
 
--- a number read from at most eight bytes, and from so many bytes of more
-pub number-known : (b : List ℕ) (r : ℕ) → length b ≤ 8 → (r ≡ pick (leb (length b) 8) (numberFrom b) 0) × (each small b ≡ true)
-    → (r ≡ numberFrom b) × (r < 256 ^ length b) × (bytesFor (length b) (numberFrom b) ≡ b)
-number-known b r h known =
-    let is : r ≡ numberFrom b = known .0 ∙ pick-true _ _ (le-leb _ _ h) in
-    (is, rw is (number-less b (known .1)), bytes-number b (known .1))
-
+-- a number read from so many bytes of b, at most eight
 pub part-known : (a k : ℕ) (b : List ℕ) (r : ℕ) → a + k ≤ length b → k ≤ 8 → (r ≡ pick (leb (length (part a k b)) 8) (numberFrom (part a k b)) 0) × (each small (part a k b) ≡ true)
     → (r ≡ numberFrom (part a k b)) × (r < 256 ^ k) × (bytesFor k (numberFrom (part a k b)) ≡ part a k b)
-part-known a k b r h short known =
+part-known a k b r h short (known, low) =
+    let p = part a k b in
     let long = length-part a k b h in
-    let read = number-known (part a k b) r (omega (arith, long, short)) known in
-    (read .0, rw long at (read .1), ap (λ (n : ℕ). bytesFor n (numberFrom (part a k b))) (sym long) ∙ read .2)
+    let is : r ≡ numberFrom p = known ∙ pick-true _ _ (le-leb (length p) 8 (omega (arith, long, short))) in
+    let less : r < 256 ^ length p = rw is (number-less p low) in
+    (is, rw long at less, ap (λ (n : ℕ). bytesFor n (numberFrom p)) (sym long) ∙ bytes-number p low)
 
 -- a part that its number spells again is the bytes of that number and of no other
 pub same-number : (k n : ℕ) (p : List ℕ) → bytesFor k (numberFrom p) ≡ p → n < 256 ^ k → eqb (numberFrom p) n ≡ same p (bytesFor k n)

@@ -1,5 +1,4 @@
 // What the images of a reader's and of a writer's state share.
-use crate::joins;
 use crate::numbers;
 use course::Last;
 use course::Place;
@@ -40,7 +39,7 @@ pub fn put_front(tag: u8, system: u8, mode: u8, last: Last, out: &mut [u8])
     ensures { λ _. ⌜ now (out .exit) ≡ pick (eqb (length (now (out .entry))) 6) (tag ∷ system ∷ mode ∷ lastBytes last) (now (out .entry)) ⌝ }
 {
     let n = last_bytes(last);
-    joins::put_bytes(&[tag, system, mode, n[0], n[1], n[2]], out);
+    lists::copy_bytes(&[tag, system, mode, n[0], n[1], n[2]], out);
 }
 
 // Whether a line is begun, where a block stands, and the place: into 10 bytes, and else nothing.
@@ -51,7 +50,7 @@ pub fn put_place(place: Place, kind: u8, out: &mut [u8])
         return;
     }
     let begun = place_byte(place);
-    joins::copy_bytes(&[begun, kind], &mut out[..2]);
+    lists::copy_bytes(&[begun, kind], &mut out[..2]);
     numbers::put_number(course::place_of(place), &mut out[2..10]);
 }
 
@@ -63,7 +62,7 @@ pub fn put_foot(t: Settings, out: &mut [u8])
         return;
     }
     numbers::put_settings(t, &mut out[..41]);
-    joins::copy_bytes(&[0u8, 0], &mut out[41..43]);
+    lists::copy_bytes(&[0u8, 0], &mut out[41..43]);
 }
 
 // The bytes of a last number stand in an image.
@@ -119,16 +118,16 @@ pub fn held_in(b: &[u8; 80]) -> [u8; 21]
 {
     let all = &b[..];
     let mut held = [0u8; 21];
-    joins::copy_bytes(&all[16..37], &mut held);
+    lists::copy_bytes(&all[16..37], &mut held);
     held
 }
 
-// The settings in an image. That an image has 80 bytes is told here, because a contract does not see it in the type.
+// The settings in an image.
 pub fn settings_in(b: &[u8; 80]) -> Settings
-    ensures { λ r. ⌜ (r ≡ settingsFrom (part 37 41 (now (b .entry)))) × (length (now (b .entry)) ≡ 80) ⌝ }
+    ensures { λ r. ⌜ r ≡ settingsFrom (part 37 41 (now (b .entry))) ⌝ }
 {
     let all = &b[..];
     let mut bytes = [0u8; 41];
-    joins::copy_bytes(&all[37..78], &mut bytes);
+    lists::copy_bytes(&all[37..78], &mut bytes);
     numbers::settings_of(&bytes)
 }

@@ -1,4 +1,3 @@
 // Numbers and settings as bytes, and what the images of a reader's and of a writer's state share (02, Item 1). Numbers stand lowest byte first.
-pub mod joins; // joins.rt: parts laid one behind the other
 pub mod numbers; // numbers.rt: numbers and settings
 pub mod frame; // frame.rt: what the images of reader and writer share

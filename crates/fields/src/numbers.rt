@@ -1,5 +1,4 @@
 // Numbers as bytes, lowest byte first; and settings as 41 bytes.
-use crate::joins;
 use line::settings;
 use line::settings::Settings;
 ghost use mathlib.Core.Path.{_≡_};
@@ -90,7 +89,10 @@ pub(crate) fn put_settings(t: Settings, out: &mut [u8])
         reserved[3],
         reserved[4],
     ];
-    joins::join_four(&[s.code, s.aai], &destination, &source, &back, out);
+    lists::copy_bytes(&[s.code, s.aai], &mut out[..2]);
+    lists::copy_bytes(&destination, &mut out[2..18]);
+    lists::copy_bytes(&source, &mut out[18..34]);
+    lists::copy_bytes(&back, &mut out[34..41]);
 }
 
 // A line number and settings, as they stand in a header: into 43 bytes, and else nothing.
@@ -122,11 +124,11 @@ pub fn settings_of(b: &[u8; 41]) -> Settings
 {
     let all = &b[..];
     let mut destination = [0u8; 16];
-    joins::copy_bytes(&all[2..18], &mut destination);
+    lists::copy_bytes(&all[2..18], &mut destination);
     let mut source = [0u8; 16];
-    joins::copy_bytes(&all[18..34], &mut source);
+    lists::copy_bytes(&all[18..34], &mut source);
     let mut reserved = [0u8; 5];
-    joins::copy_bytes(&all[36..41], &mut reserved);
+    lists::copy_bytes(&all[36..41], &mut reserved);
     Settings {
         code: b[0],
         aai: b[1],

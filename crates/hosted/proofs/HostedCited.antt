@@ -4,7 +4,7 @@ use Prim.Native.Nat.{ℕ}
 use mathlib.Core.Bool.{true, false}
 use mathlib.Core.List.{List, [], _∷_, _++_}
 use mathlib.Core.Path.{_≡_, refl, sym, ap, ap₂, _∙_}
-use lib.Dec.{eqb, ltb, lit<}
+use lib.Dec.{eqb, lit<}
 use lib.IntN.{negsuc}
 use lib.ListN.{length, replicate}
 use Rattle.lists.specs.Tests.{pick}
@@ -142,10 +142,7 @@ pub not-reader : (w : Writer) → HeldWriter w → isReader (writerImage w) ≡ 
 not-reader w h r = hosted .apart (writerImage w) r (hosted .writer-given w h)
 
 -- ---- reading calls
-abbrev words : List ℕ → Type 0
-words l = each (λ x. ltb x 65536) l ≡ true
-
-module _ (st : Reader) (h : HeldReader st) (line room event : List ℕ) (p : words line) (q : words room) (long : length event ≡ 32) where
+module _ (st : Reader) (h : HeldReader st) (line room event : List ℕ) (long : length event ≡ 32) where
   abbrev x : Reply
   x = reading st line room
 
@@ -156,7 +153,7 @@ module _ (st : Reader) (h : HeldReader st) (line room event : List ℕ) (p : wor
       (gave (eventAnswer e) (readerImage (reading st line room .told .state)) (bytesOf (reading st line room .room)) (eventImage (Told e) 0))
   unfolding readAs
   told e is =
-      hosted .reads-are st h line room event p q long
+      hosted .reads-are st h line room event long
       ∙ ap (λ (y : Event). pick (isEarly (eventAnswer y)) (gave (eventAnswer y) (readerImage st) (bytesOf room) event) (gave (eventAnswer y) (readerImage (x .told .state)) (bytesOf (x .room)) (eventImage (Told y) 0))) is
 
   -- 2 changes no byte
@@ -190,7 +187,7 @@ module _ (st : Reader) (h : HeldReader st) (line room event : List ℕ) (p : wor
       ≡ gave 0 (readerImage st) (bytesOf (within a st line room .room)) (5 ∷ replicate 23 0 ++ (44 ∷ 1 ∷ replicate 6 0))
   unfolding readWithinAs pick bytesFor
   read-paused a is =
-      hosted .reads-within-are a st h line room event p q long
+      hosted .reads-within-are a st h line room event long
       ∙ ap
       (λ (y : Within).
       let n = reportAnswer (y .report) in
@@ -198,68 +195,68 @@ module _ (st : Reader) (h : HeldReader st) (line room event : List ℕ) (p : wor
       is
 
 -- ---- the writer's calls
-module _ (w : Writer) (h : HeldWriter w) (line : List ℕ) (p : words line) where
+module _ (w : Writer) (h : HeldWriter w) (line : List ℕ) where
   -- `opens-are`: a refusal's number, of a line number of 32 bits, with flags and settings of any bytes
   pub open-9 : opening w true false 4294967295 full line .answer ≡ NotDone 9
       → opens (writerImage w) true false 4294967295 (settingsBytes full) (bytesOf line) ≡ wrote 9 (writerImage w) (bytesOf line)
   open-9 is =
       let k = open-keeps w true false 4294967295 full line 9 is in
       let y = opening w true false 4294967295 full line in
-      hosted .opens-are w h true false 4294967295 full full-held refl refl line p
+      hosted .opens-are w h true false 4294967295 full full-held line
       ∙ ap (λ (a : Answer). wrote (doneAnswer a) (writerImage (y .state)) (bytesOf (y .line))) is
       ∙ ap₂ (λ (v : Writer) (l : List ℕ). wrote 9 (writerImage v) (bytesOf l)) (k .0) (k .1)
 
   -- `adds-are`: an unfinished block is 256, above every refusal
-  pub add-256 : (kind : ℕ) (values : List ℕ) → words values → adding w line kind values .answer ≡ Unfinished
+  pub add-256 : (kind : ℕ) (values : List ℕ) → adding w line kind values .answer ≡ Unfinished
       → adds (writerImage w) kind (bytesOf values) (bytesOf line) ≡ wrote 256 (writerImage (adding w line kind values .state)) (bytesOf (adding w line kind values .line))
-  add-256 kind values q is =
-      hosted .adds-are w h kind values line q p
+  add-256 kind values is =
+      hosted .adds-are w h kind values line
       ∙ ap (λ (a : Laid). wrote (laidAnswer a) (writerImage (adding w line kind values .state)) (bytesOf (adding w line kind values .line))) is
 
   -- and a type of 32 bits is 18
-  pub add-18 : (values : List ℕ) → words values → adding w line 4294967041 values .answer ≡ NotLaid 18
+  pub add-18 : (values : List ℕ) → adding w line 4294967041 values .answer ≡ NotLaid 18
       → adds (writerImage w) 4294967041 (bytesOf values) (bytesOf line) .answer ≡ 18
-  add-18 values q is = ap (λ (y : Wrote). y .answer) (hosted .adds-are w h 4294967041 values line q p) ∙ ap laidAnswer is
+  add-18 values is = ap (λ (y : Wrote). y .answer) (hosted .adds-are w h 4294967041 values line) ∙ ap laidAnswer is
 
   -- `packs-are`, `closes-are`
-  pub pack-24 : (did second : ℕ) (values : List ℕ) → words values → packing w line did second values .answer ≡ NotDone 24
+  pub pack-24 : (did second : ℕ) (values : List ℕ) → packing w line did second values .answer ≡ NotDone 24
       → packs (writerImage w) did second (bytesOf values) (bytesOf line) .answer ≡ 24
-  pack-24 did second values q is = ap (λ (y : Wrote). y .answer) (hosted .packs-are w h did second values line q p) ∙ ap doneAnswer is
+  pack-24 did second values is = ap (λ (y : Wrote). y .answer) (hosted .packs-are w h did second values line) ∙ ap doneAnswer is
 
   pub close-0 : closing w line .answer ≡ Done
       → closes (writerImage w) (bytesOf line) ≡ wrote 0 (writerImage (closing w line .state)) (bytesOf (closing w line .line))
-  close-0 is = hosted .closes-are w h line p ∙ ap (λ (a : Answer). wrote (doneAnswer a) (writerImage (closing w line .state)) (bytesOf (closing w line .line))) is
+  close-0 is = hosted .closes-are w h line ∙ ap (λ (a : Answer). wrote (doneAnswer a) (writerImage (closing w line .state)) (bytesOf (closing w line .line))) is
 
   -- `adds-many-are`: 28 tells how many were finished, 2 leaves that number
-  many : (blocks : List ℕ) (k : ℕ) → words blocks → (s : Stop) → batching w line blocks .stop ≡ s
+  many : (blocks : List ℕ) (k : ℕ) → (s : Stop) → batching w line blocks .stop ≡ s
       → addsMany (writerImage w) (bytesOf blocks) (bytesOf line) k .finished ≡ pick (isEarly (stopAnswer s)) k (batching w line blocks .finished)
-  many blocks k q s is =
-      ap (λ (y : WroteMany). y .finished) (hosted .adds-many-are w h blocks line k q p)
+  many blocks k s is =
+      ap (λ (y : WroteMany). y .finished) (hosted .adds-many-are w h blocks line k)
       ∙ ap (λ (z : Stop). pick (isEarly (stopAnswer z)) k (batching w line blocks .finished)) is
 
-  pub many-28 : (blocks : List ℕ) (k : ℕ) → words blocks → batching w line blocks .stop ≡ Stopped 28
+  pub many-28 : (blocks : List ℕ) (k : ℕ) → batching w line blocks .stop ≡ Stopped 28
       → addsMany (writerImage w) (bytesOf blocks) (bytesOf line) k .finished ≡ batching w line blocks .finished
   unfolding pick
-  many-28 blocks k q is = many blocks k q (Stopped 28) is
+  many-28 blocks k is = many blocks k (Stopped 28) is
 
-  pub many-2 : (blocks : List ℕ) (k : ℕ) → words blocks → batching w line blocks .stop ≡ Stopped 2 → addsMany (writerImage w) (bytesOf blocks) (bytesOf line) k .finished ≡ k
+  pub many-2 : (blocks : List ℕ) (k : ℕ) → batching w line blocks .stop ≡ Stopped 2 → addsMany (writerImage w) (bytesOf blocks) (bytesOf line) k .finished ≡ k
   unfolding pick
-  many-2 blocks k q is = many blocks k q (Stopped 2) is
+  many-2 blocks k is = many blocks k (Stopped 2) is
 
 -- ---- `checks-are`, `lists-are`: a line of the wrong length changes no byte, and a list ended by a bad checksum says so
-pub check-1 : (system mode : ℕ) (line header : List ℕ) → words line → length header ≡ 43 → checkedOf system mode line .fault ≡ 1
+pub check-1 : (system mode : ℕ) (line header : List ℕ) → length header ≡ 43 → checkedOf system mode line .fault ≡ 1
     → checks system mode (bytesOf line) header ≡ looked 1 header
 unfolding pick
-check-1 system mode line header p long is =
+check-1 system mode line header long is =
     let c = checkedOf system mode line in
-    hosted .checks-are system mode line header p long ∙ ap (λ (n : ℕ). looked n (pick (eqb n 1) header (headerBytes c))) is
+    hosted .checks-are system mode line header long ∙ ap (λ (n : ℕ). looked n (pick (eqb n 1) header (headerBytes c))) is
 
-pub list-23 : (system mode : ℕ) (line out listed : List ℕ) → words line → words out → length listed ≡ 16
+pub list-23 : (system mode : ℕ) (line out listed : List ℕ) → length listed ≡ 16
     → listing system mode line out .answer ≡ record { fault = 0; packets = 2; words = 300; gap = 304; stop = 23 }
     → lists system mode (bytesOf line) (bytesOf out) listed ≡ listings 0 (bytesOf (listing system mode line out .out)) (2 ∷ 0 ∷ 0 ∷ 0 ∷ 44 ∷ 1 ∷ 0 ∷ 0 ∷ 48 ∷ 1 ∷ 0 ∷ 0 ∷ 23 ∷ 0 ∷ 0 ∷ 0 ∷ [])
 unfolding pick listedBytes bytesFor
-list-23 system mode line out listed p q long is =
-    hosted .lists-are system mode line out listed p q long
+list-23 system mode line out listed long is =
+    hosted .lists-are system mode line out listed long
     ∙ ap (λ (a : Listed). listings (a .fault) (bytesOf (listing system mode line out .out)) (pick (eqb (a .fault) 1) listed (listedBytes a))) is
 
 -- ---- `..-never-2`: behind every call, of an unknown system too

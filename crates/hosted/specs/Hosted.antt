@@ -28,7 +28,6 @@ use Rattle.fields.specs.Fields.{settingsBytes}
 use Rattle.fields.specs.Frame.{imageLength}
 use Rattle.images.specs.Held.{HeldReader}
 use Rattle.writerimages.specs.Held.{HeldWriter}
-use Rattle.fields.specs.Widths.{two}
 use Rattle.images.specs.ReaderImage.{imageOf as readerImage, stateOf as readerOf, isImage as isReader}
 use Rattle.writerimages.specs.WriterImage.{imageOf as writerImage, stateOf as writerOf, isImage as isWriter}
 use Rattle.events.specs.EventImage.{eventLength, eventImage}
@@ -67,27 +66,27 @@ pub record Hosted : Type 0 where
   pub writer-held : (b : List ℕ) → each small b ≡ true → length b ≡ imageLength → HeldWriter (writerOf b)
   -- a reader's image is no writer's
   pub apart : (b : List ℕ) → isReader b ≡ true → isWriter b ≡ true → ⊥
-  -- each call on the bytes of a state, a line and a room, words of 16 bits, is the library's call: its answer, and the bytes of what it leaves. A line number and a type may have any width
-  pub reads-are : (st : Reader) → HeldReader st → (line room event : List ℕ) → each two line ≡ true → each two room ≡ true → length event ≡ eventLength
+  -- each call on the bytes of a state, a line and a room is the library's call: its answer, and the bytes of what it leaves. A line number and a type may have any width
+  pub reads-are : (st : Reader) → HeldReader st → (line room event : List ℕ) → length event ≡ eventLength
       → reads (readerImage st) (bytesOf line) (bytesOf room) event ≡ readAs st line room event
-  pub reads-within-are : (a : ℕ) (st : Reader) → HeldReader st → (line room event : List ℕ) → each two line ≡ true → each two room ≡ true → length event ≡ eventLength
+  pub reads-within-are : (a : ℕ) (st : Reader) → HeldReader st → (line room event : List ℕ) → length event ≡ eventLength
       → readsWithin a (readerImage st) (bytesOf line) (bytesOf room) event ≡ readWithinAs a st line room event
-  pub opens-are : (w : Writer) → HeldWriter w → (f v : Bool) (n : ℕ) (t : Settings) → Held t → small (t .code) ≡ true → small (t .aai) ≡ true → (line : List ℕ) → each two line ≡ true
+  pub opens-are : (w : Writer) → HeldWriter w → (f v : Bool) (n : ℕ) (t : Settings) → Held t → (line : List ℕ)
       → let x = opening w f v n t line in opens (writerImage w) f v n (settingsBytes t) (bytesOf line) ≡ wrote (doneAnswer (x .answer)) (writerImage (x .state)) (bytesOf (x .line))
-  pub adds-are : (w : Writer) → HeldWriter w → (kind : ℕ) (values line : List ℕ) → each two values ≡ true → each two line ≡ true
+  pub adds-are : (w : Writer) → HeldWriter w → (kind : ℕ) (values line : List ℕ)
       → let x = adding w line kind values in adds (writerImage w) kind (bytesOf values) (bytesOf line) ≡ wrote (laidAnswer (x .answer)) (writerImage (x .state)) (bytesOf (x .line))
-  pub packs-are : (w : Writer) → HeldWriter w → (did second : ℕ) (values line : List ℕ) → each two values ≡ true → each two line ≡ true
+  pub packs-are : (w : Writer) → HeldWriter w → (did second : ℕ) (values line : List ℕ)
       → let x = packing w line did second values in packs (writerImage w) did second (bytesOf values) (bytesOf line) ≡ wrote (doneAnswer (x .answer)) (writerImage (x .state)) (bytesOf (x .line))
-  pub closes-are : (w : Writer) → HeldWriter w → (line : List ℕ) → each two line ≡ true
+  pub closes-are : (w : Writer) → HeldWriter w → (line : List ℕ)
       → let x = closing w line in closes (writerImage w) (bytesOf line) ≡ wrote (doneAnswer (x .answer)) (writerImage (x .state)) (bytesOf (x .line))
-  pub adds-many-are : (w : Writer) → HeldWriter w → (blocks line : List ℕ) (k : ℕ) → each two blocks ≡ true → each two line ≡ true
+  pub adds-many-are : (w : Writer) → HeldWriter w → (blocks line : List ℕ) (k : ℕ)
       → let x = batching w line blocks in
       addsMany (writerImage w) (bytesOf blocks) (bytesOf line) k
       ≡ wroteMany (stopAnswer (x .stop)) (writerImage (x .state)) (bytesOf (x .line)) (pick (isEarly (stopAnswer (x .stop))) k (x .finished))
   -- so are the line check and the listing of a gap; 1 leaves what was lent for their answers
-  pub checks-are : (system mode : ℕ) (line header : List ℕ) → each two line ≡ true → length header ≡ headerLength
+  pub checks-are : (system mode : ℕ) (line header : List ℕ) → length header ≡ headerLength
       → let c = checkedOf system mode line in checks system mode (bytesOf line) header ≡ looked (c .fault) (pick (eqb (c .fault) 1) header (headerBytes c))
-  pub lists-are : (system mode : ℕ) (line out listed : List ℕ) → each two line ≡ true → each two out ≡ true → length listed ≡ listedLength
+  pub lists-are : (system mode : ℕ) (line out listed : List ℕ) → length listed ≡ listedLength
       → let x = listing system mode line out in
       lists system mode (bytesOf line) (bytesOf out) listed ≡ listings (x .answer .fault) (bytesOf (x .out)) (pick (eqb (x .answer .fault) 1) listed (listedBytes (x .answer)))
   -- from a reader or a writer made by C, and any calls, 2 is never answered

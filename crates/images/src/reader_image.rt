@@ -1,8 +1,8 @@
 // The reader's state as 80 bytes, and back.
 use course::Place;
 use fields::frame;
-use fields::joins;
 use fields::numbers;
+use line::settings;
 use machine::phase::Mark;
 use machine::phase::Phase;
 use reader::state::Reader;
@@ -116,7 +116,7 @@ fn put_phase(phase: Phase, out: &mut [u8])
 {
     let x = counted_of(phase);
     let mark = x.mark;
-    joins::put_bytes(&[mark[0], mark[1], x.b0, x.b1, x.b2], &mut out[..5]);
+    lists::copy_bytes(&[mark[0], mark[1], x.b0, x.b1, x.b2], &mut out[..5]);
     numbers::put_eights(x.announced, x.collected, &mut out[5..21]);
 }
 
@@ -213,7 +213,6 @@ pub struct Spelt {
 
 // The bytes of a phase stand in an image.
 fn shows_phase(phase: Phase, b: &[u8; 80]) -> bool
-    requires { ⌜ length (now b) ≡ 80 ⌝ }
     ensures { λ r. ⌜ r ≡ (eqb (getD (now (b .entry)) 7 0) (phaseByte phase) && same (heldIn (now (b .entry))) (phaseBytes phase)) ⌝ }
 {
     let x = counted_of(phase);
@@ -229,14 +228,15 @@ fn shows_phase(phase: Phase, b: &[u8; 80]) -> bool
 pub fn read_image(b: &[u8; 80]) -> Spelt
     ensures { λ r. ⌜ (r .state ≡ stateOf (now (b .entry))) × (r .image ≡ isImage (now (b .entry))) ⌝ }
 {
+    let all = &b[..];
     let last = frame::last_in(b);
     let settings = frame::settings_in(b);
     let place = frame::place_in(b);
     let phase = phase_in(b);
     let image = frame::shows_frame(TAG, last, place, b) & shows_phase(phase, b);
     let st = Reader {
-        system: b[1],
-        mode: b[2],
+        system: all[1],
+        mode: all[2],
         last: last,
         settings: settings,
         place: place,
@@ -252,5 +252,7 @@ pub fn read_image(b: &[u8; 80]) -> Spelt
 pub fn held_reader(st: Reader) -> Reader
     ensures { λ r. ⌜ (r ≡ st) × HeldReader r ⌝ }
 {
+    let s = st.settings;
+    let t = settings::held(s);
     st
 }

@@ -13,11 +13,9 @@ use reader::state;
 use reader::state::Event;
 use reader::state::Reader;
 ghost use mathlib.Core.Path.{_≡_};
-ghost use mathlib.Core.Bool.{not};
 ghost use mathlib.Core.List.{_++_};
 ghost use Prim.Native.Nat.{_+_, _≤_};
 ghost use lib.ListN.{length, take};
-ghost use Rattle.reader.specs.Lending.{isLast};
 ghost use Rattle.rows.specs.Rows.{rowText};
 ghost use Rattle.listing.specs.Lines.{Between, Lists};
 
@@ -52,26 +50,6 @@ fn put_row(event: Event, n: usize, text: &mut [u8]) -> usize
     n + k
 }
 
-// The line is not over with this event.
-fn goes_on(event: Event) -> bool
-    ensures { λ r. ⌜ r ≡ not (isLast event) ⌝ }
-{
-    match event {
-        Event::Refused {
-            answer: _,
-            dropped: _,
-        } => false,
-        Event::Begun {
-            number: _,
-            jump: _,
-            dropped: _,
-        } => true,
-        Event::Block { kind: _, length: _ } => true,
-        Event::Drop { reason: _ } => true,
-        Event::End => false,
-    }
-}
-
 // What a line leaves beside room and text: the reader's state, and how many bytes of text its rows have.
 pub struct Left {
     pub state: Reader,
@@ -94,7 +72,7 @@ fn list_line(st: Reader, line: &[u16], room: &mut [u16], text: &mut [u8]) -> Lef
         let event = told.event;
         let next = told.state;
         n = put_row(event, n, text);
-        more = goes_on(event);
+        more = rows::goes_on(event);
         state = next;
         calls += 1;
     }

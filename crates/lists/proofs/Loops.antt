@@ -10,9 +10,12 @@ use native.Mathlib.Omega.{arith}
 use lib.Dec.{eqb}
 use lib.ListN.{length, getD, take, drop, set, length-set, length-map, drop-of-length-le, take-append-drop}
 use lib.Seq.{drop-cons, drop-drop, take-suc, take-suc-set, take-all, paste}
+use borrow.Author.Tests.{eq-eqb}
 use borrow.Rule.Slice.PartMut.{putMid}
+use Rattle.lists.specs.Tests.{pick}
 use Rattle.lists.specs.Lists.{part, same, each}
 use Rattle.lists.proofs.Lists.{getD-map-in}
+use Rattle.lists.proofs.Tests.{pick-true}
 
 pub next-drop : (s : List ℕ) (i : ℕ) → i < length s → drop i s ≡ getD s i 0 ∷ drop (i + 1) s
 next-drop s i h = drop-cons s i 0 h ∙ ap (λ (k : ℕ). getD s i 0 ∷ drop k s) (sym (add-one i))
@@ -116,6 +119,10 @@ fill-turn ws d out i x f h e =
 
 pub fill-end : (ws d out : List ℕ) (i : ℕ) → Filling ws d out i → length ws ≤ i → out ≡ ws
 fill-end ws d out i f h = copy-end i out ws (omega (arith, f .same, f .long)) h (f .is)
+
+-- what is copied only into a part that is as long: it is
+pub copied : (s out x : List ℕ) → length out ≡ length s → x ≡ pick (eqb (length out) (length s)) s out → x ≡ s
+copied s out x h e = e ∙ pick-true _ _ (eq-eqb _ _ h)
 
 -- with what a function makes of the words of src
 pub map-start : (g : ℕ → ℕ) (src d : List ℕ) → length d ≡ length src → Filling (map g src) d d 0

@@ -1,7 +1,7 @@
 // Bytes of the outside: words from bytes and bytes from words, two bytes a word, low byte first; and a number from its text.
 ghost use mathlib.Core.Path.{_≡_};
 ghost use Prim.Native.Nat.{_+_, _*_, _/_, _%_, min};
-ghost use lib.ListN.{length};
+ghost use lib.ListN.{length, getD};
 ghost use lib.Seq.{paste};
 ghost use Rattle.octets.specs.Bytes.{wordsOf, bytesOf, isEven};
 ghost use Rattle.octets.specs.Numbers.{digitMore, numberOf};
@@ -14,10 +14,20 @@ pub fn is_even(bytes: &[u8]) -> bool
 }
 
 // A word of two bytes.
-fn joined(low: u8, high: u8) -> u16
+pub fn joined(low: u8, high: u8) -> u16
     ensures { λ r. ⌜ r ≡ low + high * 256 ⌝ }
 {
     low as u16 + high as u16 * 256
+}
+
+// Word i of the bytes; 0 where there is none.
+pub fn word_at(bytes: &[u8], i: usize) -> u16
+    ensures { λ r. ⌜ r ≡ getD (wordsOf (now (bytes .entry))) i 0 ⌝ }
+{
+    if i < bytes.len() / 2 {
+        return joined(bytes[2 * i], bytes[2 * i + 1]);
+    }
+    0
 }
 
 // The words of the bytes, so many as there are whole pairs of bytes and room for; the rest of out stays.

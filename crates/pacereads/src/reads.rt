@@ -51,23 +51,6 @@ fn after(digest: u32, event: Event, room: &[u16]) -> u32 {
     }
 }
 
-fn goes_on(event: Event) -> bool {
-    match event {
-        Event::Refused {
-            answer: _,
-            dropped: _,
-        } => false,
-        Event::Begun {
-            number: _,
-            jump: _,
-            dropped: _,
-        } => true,
-        Event::Block { kind: _, length: _ } => true,
-        Event::Drop { reason: _ } => true,
-        Event::End => false,
-    }
-}
-
 // One call.
 fn call(heard: Heard, line: &[u16], room: &mut [u16]) -> Heard {
     let told = read::read(heard.reader, line, room);
@@ -76,7 +59,7 @@ fn call(heard: Heard, line: &[u16], room: &mut [u16]) -> Heard {
     Heard {
         reader: next,
         digest: after(heard.digest, event, room),
-        more: goes_on(event),
+        more: rows::goes_on(event),
     }
 }
 

@@ -3,7 +3,7 @@
 use mathlib.Core.Path.{_≡_, refl, sym, ap, ap₂, _∙_, subst}
 use mathlib.Core.Bool.{Bool, true, false}
 use mathlib.Core.List.{List, [], _∷_, _++_, append-assoc}
-use Prim.Native.Nat.{ℕ, zero, suc, _+_, _-_, _*_, _%_, _<_, _≤_}
+use Prim.Native.Nat.{ℕ, zero, suc, _+_, _*_, _%_, _≤_}
 use native.Mathlib.Nat.{add-comm}
 use native.Mathlib.Numerals.{add-one}
 use native.Mathlib.Omega.{arith}
@@ -21,7 +21,7 @@ use Rattle.packets.specs.declared.list.Listed.{Listed}
 use Rattle.packets.specs.Packet.{Packet, wordsOf, packed, entryOf, flat}
 use Rattle.packets.specs.Gap.{flagAt, countAt, faultAt, packetAt, lookAt, Found, ends, before, listBy, listIn}
 use Rattle.packets.specs.Listing.{Outcome, outcome, listedOf}
-use Rattle.packets.proofs.PacketLaws.{Good, good, look-nothing, look-bad, look-whole}
+use Rattle.packets.proofs.PacketLaws.{good, look-nothing, look-bad, look-whole}
 use Rattle.packets.proofs.PacketBack.{packet-long, counted, packet-back, Sound, flag-there, fault-there, packet-there, rest-there}
 
 -- a choice of lists by the flag and the fault

@@ -1,6 +1,6 @@
 -- The answers of the listing: 1, the line check's number, or the packets.
 -- Assumes nothing.
-use mathlib.Core.Path.{_≡_, refl, sym, ap, _∙_, subst}
+use mathlib.Core.Path.{_≡_, refl, ap, _∙_}
 use mathlib.Core.Bool.{Bool, true, false, _&&_, not}
 use mathlib.Core.List.{List}
 use Prim.Native.Nat.{ℕ, zero, suc, _+_, _-_, _≤_}
@@ -9,16 +9,15 @@ use lib.Dec.{eqb}
 use lib.ListN.{length, take, drop}
 use borrow.Author.Tests.{eq-eqb, ne-eqb, not-false}
 use Rattle.lists.specs.Tests.{pick, lowestOf}
-use Rattle.lists.specs.Lists.{part}
 use Rattle.lists.proofs.Tests.{and-none, pick-true, pick-false}
 use Rattle.lists.proofs.Refusals.{lowest-clear}
 use Rattle.line.specs.declared.systems.System.{System}
 use Rattle.line.specs.Systems.{systemOf}
 use Rattle.line.specs.Layout.{gapAt}
 use Rattle.line.specs.Check.{fits, faults, lineFaults, lineFault, checkedFrom, checkedOf}
-use Rattle.line.proofs.SystemLaws.{Fit, fitting}
+use Rattle.line.proofs.SystemLaws.{fitting}
 use Rattle.line.proofs.CheckLaws.{check-rising}
-use Rattle.packets.specs.Gap.{Found, listIn}
+use Rattle.packets.specs.Gap.{listIn}
 use Rattle.packets.specs.Listing.{gapLength, gapOf, outcome, listFault, noneListed, listedOf, listing}
 
 -- how long the gap is, as the code computes it

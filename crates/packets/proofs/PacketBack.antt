@@ -1,9 +1,9 @@
 -- A packet laid is found again, and a packet found, written again, is word for word what stood there.
 -- Assumes nothing.
-use mathlib.Core.Path.{_≡_, refl, sym, ap, ap₂, _∙_, subst}
-use mathlib.Core.Bool.{Bool, true, false, _&&_}
+use mathlib.Core.Path.{_≡_, refl, sym, ap, ap₂, _∙_}
+use mathlib.Core.Bool.{Bool, true, _&&_}
 use mathlib.Core.List.{List, [], _∷_, _++_, map, append-assoc}
-use Prim.Native.Nat.{ℕ, suc, _+_, _-_, _%_, _<_, _≤_}
+use Prim.Native.Nat.{ℕ, _+_, _%_, _<_, _≤_}
 use native.Mathlib.Nat.{mod-lt}
 use native.Mathlib.Omega.{arith}
 use lib.Dec.{ltb, lit<}
@@ -20,7 +20,7 @@ use Rattle.line.specs.Header.{flagWords}
 use Rattle.line.specs.Check.{low}
 use Rattle.packets.specs.Packet.{bodyWords, packetWords, Packet, wordsOf}
 use Rattle.packets.specs.Gap.{flagAt, countAt, faultAt, value, packetAt}
-use Rattle.packets.proofs.PacketLaws.{Good, good, no-fault}
+use Rattle.packets.proofs.PacketLaws.{Good, no-fault}
 
 pub each-split : (f : ℕ → Bool) (xs ys : List ℕ) → each f (xs ++ ys) ≡ true → (each f xs ≡ true) × (each f ys ≡ true)
 each-split f [] ys e = (refl, e)

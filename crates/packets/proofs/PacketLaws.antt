@@ -1,30 +1,22 @@
 -- Laws of one packet at the front of a gap: what its faults say, and what is laid.
 -- Assumes nothing.
-use mathlib.Core.Path.{_≡_, refl, sym, ap, ap₂, _∙_}
-use mathlib.Core.Bool.{Bool, true, false, _&&_, not}
-use mathlib.Core.List.{List, [], _∷_, _++_, map}
-use Prim.Native.Nat.{ℕ, suc, _+_, _-_, _<_, _≤_}
-use native.Mathlib.Nat.{add-suc}
+use mathlib.Core.Path.{_≡_, refl, sym, ap, _∙_}
+use mathlib.Core.Bool.{true, false, not}
+use mathlib.Core.List.{List}
+use Prim.Native.Nat.{ℕ, _+_, _<_, _≤_}
 use native.Mathlib.Omega.{arith}
-use lib.Dec.{eqb}
-use lib.ListN.{length, getD, take, drop, set, length-take, length-map, length-append, drop-of-length-le}
-use lib.Seq.{take-at, drop-at, set-split}
-use borrow.Rule.Slice.PartMut.{putMid}
+use lib.ListN.{length, getD, take, length-take}
 use borrow.Author.Tests.{lt-ltb, le-ltb, ltb-false, eq-eqb, ne-eqb, eqb-true, not-false}
-use Rattle.lists.specs.Tests.{pick, rising, lowestOf}
+use Rattle.lists.specs.Tests.{rising}
 use Rattle.lists.specs.Lists.{part, each}
-use Rattle.lists.proofs.Tests.{true-false, both-true, and-true, pick-true, pick-false}
-use Rattle.lists.proofs.Refusals.{Clear, lowest-clear, clear-lowest}
-use Rattle.lists.proofs.Lists.{same-eq}
+use Rattle.lists.proofs.Tests.{both-true, and-true, pick-true, pick-false}
+use Rattle.lists.proofs.Refusals.{lowest-clear, clear-lowest}
 use Rattle.lists.proofs.Loops.{same-lengths}
-use Rattle.words.specs.Forms.{byteWord, dataWord, isByte, isData}
+use Rattle.words.specs.Forms.{isByte, isData}
 use Rattle.words.specs.Checksum.{checksum}
-use Rattle.words.proofs.FormLaws.{byte-of-low}
 use Rattle.line.specs.Header.{flagWords}
 use Rattle.line.specs.Check.{low}
-use Rattle.packets.specs.declared.packet.Look.{Look}
 use Rattle.packets.specs.declared.packet.Look.the-variants.{Nothing, Whole, Bad}
-use Rattle.packets.specs.Packet.{bodyWords, packetWords}
 use Rattle.packets.specs.Gap.{flagAt, countAt, faultsAt, faultAt, lookAt}
 
 -- ---- the flag

@@ -5,18 +5,6 @@ ghost use lib.ListN.{length};
 ghost use Rattle.words.specs.Forms.{dataWord};
 ghost use Rattle.packets.specs.Gap.{value};
 
-// The words of s.
-pub(crate) fn copy_in(s: &[u16], out: &mut [u16])
-    requires { ⌜ length (now out) ≡ length (now s) ⌝ }
-    ensures { λ _. ⌜ now (out .exit) ≡ now (s .entry) ⌝ }
-{
-    let mut i = 0;
-    while i < s.len() {
-        out[i] = s[i];
-        i += 1;
-    }
-}
-
 // User words: the values in data form.
 pub(crate) fn put_users(values: &[u16], out: &mut [u16])
     requires { ⌜ length (now out) ≡ length (now values) ⌝ }

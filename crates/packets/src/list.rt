@@ -32,7 +32,7 @@ fn list_one(gap: &[u16], out: &mut [u16])
     let next = gap[4] % 256;
     let count = gap[5] % 256;
     let end = count as usize + 6;
-    fill::copy_in(&[first, next, count], &mut out[..3]);
+    lists::copy_words(&[first, next, count], &mut out[..3]);
     fill::put_values(&gap[6..end], &mut out[3..]);
 }
 

@@ -72,7 +72,7 @@ fn lay_body(did: u8, second: u8, values: &[u16], out: &mut [u16])
     let first = forms::byte_word(did as u16);
     let next = forms::byte_word(second as u16);
     let count = forms::byte_word((values.len() % 256) as u16);
-    fill::copy_in(&[first, next, count], &mut out[..3]);
+    lists::copy_words(&[first, next, count], &mut out[..3]);
     fill::put_users(values, &mut out[3..]);
 }
 
@@ -84,7 +84,7 @@ fn lay_summed(did: u8, second: u8, values: &[u16], out: &mut [u16])
     let n = values.len() + 3;
     lay_body(did, second, values, &mut out[..n]);
     let sum = checksum::checksum_of(&out[..n]);
-    fill::copy_in(&[sum], &mut out[n..]);
+    lists::copy_words(&[sum], &mut out[n..]);
 }
 
 // The flag, and all behind it.
@@ -92,7 +92,7 @@ fn lay_whole(did: u8, second: u8, values: &[u16], out: &mut [u16])
     requires { ⌜ length (now out) ≡ length (now values) + 7 ⌝ }
     ensures { λ _. ⌜ now (out .exit) ≡ packetWords did second (now (values .entry)) ⌝ }
 {
-    fill::copy_in(&[0x000u16, 0x3ff, 0x3ff], &mut out[..3]);
+    lists::copy_words(&[0x000u16, 0x3ff, 0x3ff], &mut out[..3]);
     lay_summed(did, second, values, &mut out[3..]);
 }
 

@@ -5,24 +5,6 @@ use reader::state;
 use reader::state::Event;
 use reader::state::Reader;
 
-// Whether more is to be heard of a line after an event.
-fn goes_on(e: Event) -> bool {
-    match e {
-        Event::Refused {
-            answer: _,
-            dropped: _,
-        } => false,
-        Event::Begun {
-            number: _,
-            jump: _,
-            dropped: _,
-        } => true,
-        Event::Block { kind: _, length: _ } => true,
-        Event::Drop { reason: _ } => true,
-        Event::End => false,
-    }
-}
-
 // The first bytes of a text.
 fn say(text: &[u8], n: usize) {
     let to = steps::within(n, text.len());
@@ -44,7 +26,7 @@ fn hear_line(r: Reader, line: &[u16], room: &mut [u16]) -> Reader {
         let e = t.event;
         now = t.state;
         put_event(e);
-        if !goes_on(e) {
+        if !rows::goes_on(e) {
             return now;
         }
         turns -= 1;

@@ -1,9 +1,10 @@
-// The listing's rows: the text of an event.
+// The listing's rows: the text of an event, and whether more follow of its line.
 use reader::jump::Jump;
 use reader::state::Event;
 ghost use mathlib.Core.Path.{_≡_};
+ghost use mathlib.Core.Bool.{not};
 ghost use mathlib.Core.List.{_++_};
-ghost use lib.IntN.{natAbs};
+ghost use Rattle.reader.specs.Lending.{isLast};
 ghost use Rattle.rows.specs.Text.{decimal, signed, droppedText, space, newline};
 ghost use Rattle.rows.specs.Rows.{jumpText, rowOf};
 ghost use Rattle.rows.specs.Cuts.{none, put, added};
@@ -64,25 +65,15 @@ fn add_decimal(row: Row, n: u64) -> Row
     add_byte(front, 48 + (n % 10) as u8)
 }
 
-// How far from 0. The least number has no opposite in 32 bits.
-fn size(d: i32) -> u64
-    ensures { λ r. ⌜ r ≡ natAbs d ⌝ }
-{
-    if d < 0 {
-        return (0 - d as i64) as u64;
-    }
-    d as u64
-}
-
 // A number that may be below 0.
 fn add_signed(row: Row, d: i32) -> Row
     ensures { λ r. ⌜ r ≡ added row (signed d) ⌝ }
 {
     if d < 0 {
         let minus = add_byte(row, b'-');
-        return add_decimal(minus, size(d));
+        return add_decimal(minus, lists::size(d) as u64);
     }
-    add_decimal(row, size(d))
+    add_decimal(row, lists::size(d) as u64)
 }
 
 // A space and a jump.
@@ -145,5 +136,25 @@ pub fn row_of(event: Event) -> Row
             let row = add_text(empty(), b"end");
             end_row(row, false)
         }
+    }
+}
+
+// The line is not over with this event.
+pub fn goes_on(event: Event) -> bool
+    ensures { λ r. ⌜ r ≡ not (isLast event) ⌝ }
+{
+    match event {
+        Event::Refused {
+            answer: _,
+            dropped: _,
+        } => false,
+        Event::Begun {
+            number: _,
+            jump: _,
+            dropped: _,
+        } => true,
+        Event::Block { kind: _, length: _ } => true,
+        Event::Drop { reason: _ } => true,
+        Event::End => false,
     }
 }

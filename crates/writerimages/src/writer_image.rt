@@ -1,8 +1,8 @@
 // The writer's state as 80 bytes, and back.
 use course::Place;
 use fields::frame;
-use fields::joins;
 use fields::numbers;
+use line::settings;
 use writer::state::Rest;
 use writer::state::Writer;
 ghost use mathlib.Core.Path.{_≡_};
@@ -68,7 +68,7 @@ fn put_held(rest: Rest, crc: u32, used: u16, out: &mut [u8])
     ensures { λ _. ⌜ now (out .exit) ≡ restBytes rest ++ (bytesFor 4 crc ++ (bytesFor 2 used ++ replicate 8 0)) ⌝ }
 {
     let block = rest_bytes(rest);
-    joins::put_bytes(&block, &mut out[..7]);
+    lists::copy_bytes(&block, &mut out[..7]);
     put_kept(crc, used, &mut out[7..21]);
 }
 
@@ -123,7 +123,6 @@ pub struct Spelt {
 
 // The bytes of an unfinished block stand in an image, and the bytes that are not used are 0.
 fn shows_rest(rest: Rest, b: &[u8; 80]) -> bool
-    requires { ⌜ length (now b) ≡ 80 ⌝ }
     ensures { λ r. ⌜ r ≡ (eqb (getD (now (b .entry)) 7 0) (restByte rest) && (same (part 16 7 (now (b .entry))) (restBytes rest) && same (part 29 8 (now (b .entry))) (bytesFor 8 0))) ⌝ }
 {
     let x = rest_bytes(rest);
@@ -137,6 +136,7 @@ fn shows_rest(rest: Rest, b: &[u8; 80]) -> bool
 pub fn read_image(b: &[u8; 80]) -> Spelt
     ensures { λ r. ⌜ (r .state ≡ stateOf (now (b .entry))) × (r .image ≡ isImage (now (b .entry))) ⌝ }
 {
+    let all = &b[..];
     let last = frame::last_in(b);
     let settings = frame::settings_in(b);
     let place = frame::place_in(b);
@@ -146,8 +146,8 @@ pub fn read_image(b: &[u8; 80]) -> Spelt
     let used = numbers::number_in(&held[11..13]) as u16;
     let image = frame::shows_frame(TAG, last, place, b) & shows_rest(rest, b);
     let w = Writer {
-        system: b[1],
-        mode: b[2],
+        system: all[1],
+        mode: all[2],
         last: last,
         settings: settings,
         place: place,
@@ -165,5 +165,7 @@ pub fn read_image(b: &[u8; 80]) -> Spelt
 pub fn held_writer(w: Writer) -> Writer
     ensures { λ r. ⌜ (r ≡ w) × HeldWriter r ⌝ }
 {
+    let s = w.settings;
+    let t = settings::held(s);
     w
 }

@@ -1,4 +1,5 @@
 -- `course::look` meets its contract. Assumes nothing.
+use Rattle.lists.proofs.Needs.{need}
 use mathlib.Core.Path.{sym, ap, _∙_}
 use mathlib.Core.Bool.{Bool, _||_}
 use Rattle.course.specs.declared.Last.{Last}
@@ -6,24 +7,6 @@ use Rattle.course.specs.Course.{impossibleAfter}
 use borrow.Author.Needs.{needs}
 use Rattle.course.proofs.look.Statement.{statement}
 use Rattle.course.proofs.look.Tie as tie
-
-enum-told : tie.Need-enum-told
-enum-told c = search needs
-
-fixed-of-requires : tie.Need-fixed-of-requires
-fixed-of-requires c κs = search needs
-
-is-at-requires : tie.Need-is-at-requires
-is-at-requires c κs = search needs
-
-looked-by-requires : tie.Need-looked-by-requires
-looked-by-requires c κs = search needs
-
-enum-known-last : tie.Need-enum-known-last
-enum-known-last c = search needs
-
-look-after-requires : tie.Need-look-after-requires
-look-after-requires c κs = search needs
 
 returns : tie.Need-returns
 returns c =
@@ -45,4 +28,4 @@ returns-2 c =
 
 pub look-spec : {M : Type 1} → statement M
 look-spec =
-    tie.close (tie.spec enum-told fixed-of-requires is-at-requires looked-by-requires enum-known-last look-after-requires returns returns-2)
+    tie.close (tie.spec (need tie.Need-enum-told (λ c. search needs)) (need tie.Need-fixed-of-requires (λ c κs. search needs)) (need tie.Need-is-at-requires (λ c κs. search needs)) (need tie.Need-looked-by-requires (λ c κs. search needs)) (need tie.Need-enum-known-last (λ c. search needs)) (need tie.Need-look-after-requires (λ c κs. search needs)) returns returns-2)

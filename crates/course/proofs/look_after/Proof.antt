@@ -21,9 +21,6 @@ use Rattle.course.proofs.look_after.Tie as tie
 bound : (s r : System) (x : ℕ) → s ≡ r → not (leb 1 x && leb x (s .lines)) ≡ not (leb 1 x && leb x (r .lines))
 bound s r x e = ap (λ (y : System). not (leb 1 x && leb x (y .lines))) e
 
-looked-by-requires : tie.Need-looked-by-requires
-looked-by-requires c κs = c .before .before .before .find-fault .ensures .1
-
 returns : tie.Need-returns
 returns c =
     let t = c .before in
@@ -35,9 +32,6 @@ returns c =
       c .looked-by .ensures .2,
     )
 
-looked-by-requires-2 : tie.Need-looked-by-requires-2
-looked-by-requires-2 c κs = c .before .before .before .before .before .find-fault .ensures .1
-
 returns-2 : tie.Need-returns-2
 returns-2 c =
     let t = c .before in
@@ -45,9 +39,6 @@ returns-2 c =
     let s = f .before in
     let g = s .before .args in
     (c .looked-by2 .ensures .0 ∙ sym (or-left _ _ (sym (bound _ _ (g .x) (s .system-of .ensures)) ∙ t .if2 .taken)), c .looked-by2 .ensures .1, c .looked-by2 .ensures .2)
-
-end-by-requires : tie.Need-end-by-requires
-end-by-requires c κs = c .before .before .before .before .before .find-fault .ensures .1
 
 looked-by-requires-3 : tie.Need-looked-by-requires-3
 looked-by-requires-3 c κs = c .before .before .before .before .before .before .before .before .before .find-fault .ensures .1
@@ -111,7 +102,7 @@ returns-4 c =
 pub look-after-spec : {M : Type 1} → statement M
 look-after-spec =
     tie.close (tie.spec
-    (need tie.Need-system-of-requires (λ c κs. search needs)) (need tie.Need-find-fault-requires (λ c κs. search needs)) looked-by-requires returns
-    looked-by-requires-2 returns-2 end-by-requires (need tie.Need-is-variable-requires (λ c κs. search needs))
+    (need tie.Need-system-of-requires (λ c κs. search needs)) (need tie.Need-find-fault-requires (λ c κs. search needs)) (need tie.Need-looked-by-requires (λ c κs. search needs)) returns
+    (need tie.Need-looked-by-requires-2 (λ c κs. search needs)) returns-2 (need tie.Need-end-by-requires (λ c κs. search needs)) (need tie.Need-is-variable-requires (λ c κs. search needs))
     (need tie.Need-misplaced-by-requires (λ c κs. search needs)) looked-by-requires-3 returns-3
     (need tie.Need-misplaced-by-requires-2 (λ c κs. search needs)) looked-by-requires-4 returns-4)

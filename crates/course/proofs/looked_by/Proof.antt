@@ -1,4 +1,5 @@
 -- `course::looked_by` meets its contract. Assumes nothing.
+use Rattle.lists.proofs.Needs.{need}
 use mathlib.Core.Path.{refl, ap, _∙_}
 use Rattle.line.specs.declared.systems.System.{System}
 use Rattle.line.specs.declared.fixed.Fixed.{Fixed}
@@ -7,12 +8,6 @@ use Rattle.course.specs.Course.{blocksEnd}
 use borrow.Author.Needs.{needs}
 use Rattle.course.proofs.looked_by.Statement.{statement}
 use Rattle.course.proofs.looked_by.Tie as tie
-
-system-of-requires : tie.Need-system-of-requires
-system-of-requires c κs = search needs
-
-end-by-requires : tie.Need-end-by-requires
-end-by-requires c κs = search needs
 
 returns : tie.Need-returns
 unfolding sizeOf
@@ -25,4 +20,4 @@ returns c =
     )
 
 pub looked-by-spec : {M : Type 1} → statement M
-looked-by-spec = tie.close (tie.spec system-of-requires end-by-requires returns)
+looked-by-spec = tie.close (tie.spec (need tie.Need-system-of-requires (λ c κs. search needs)) (need tie.Need-end-by-requires (λ c κs. search needs)) returns)

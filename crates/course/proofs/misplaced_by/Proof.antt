@@ -1,4 +1,5 @@
 -- `course::misplaced_by` meets its contract. Assumes nothing.
+use Rattle.lists.proofs.Needs.{need}
 use mathlib.Core.Path.{_≡_, sym, ap, _∙_}
 use mathlib.Core.Bool.{Bool, true, false, _&&_, _||_, not}
 use Prim.Native.Nat.{ℕ, _≤_, _<_}
@@ -21,12 +22,6 @@ within-variable v end size q h e = within v end size q h ∙ ap (λ (b : Bool). 
 within-fixed : (v : Bool) (end size q : ℕ) → q ≤ end → v ≡ false → misplacedBy v end size (At q) ≡ offBy size q
 within-fixed v end size q h e = within v end size q h ∙ ap (λ (b : Bool). not b && offBy size q) e
 
-enum-told : tie.Need-enum-told
-enum-told c = search needs
-
-enum-known-place : tie.Need-enum-known-place
-enum-known-place c = search needs
-
 returns : tie.Need-returns
 returns c =
     let k = c .before .before in
@@ -40,12 +35,6 @@ returns-2 c =
     let g = k .before .before .args in
     sym (ap (misplacedBy (g .variable) (g .end) (g .size)) (k .place .given .1) ∙ within-variable (g .variable) (g .end) (g .size) _ (e .if1 .left) (c .if2 .taken))
 
-is-off-requires : tie.Need-is-off-requires
-is-off-requires c κs = search needs
-
-returns-3 : tie.Need-returns-3
-returns-3 c = search needs
-
 returns-4 : tie.Need-returns-4
 returns-4 c =
     let f = c .before in
@@ -57,4 +46,4 @@ returns-4 c =
 
 pub misplaced-by-spec : {M : Type 1} → statement M
 misplaced-by-spec =
-    tie.close (tie.spec enum-told enum-known-place returns returns-2 is-off-requires returns-3 returns-4)
+    tie.close (tie.spec (need tie.Need-enum-told (λ c. search needs)) (need tie.Need-enum-known-place (λ c. search needs)) returns returns-2 (need tie.Need-is-off-requires (λ c κs. search needs)) (need tie.Need-returns-3 (λ c. search needs)) returns-4)

@@ -1,4 +1,5 @@
 -- `course::next_number` meets its contract. Assumes nothing.
+use Rattle.lists.proofs.Needs.{need}
 use mathlib.Core.Path.{sym, _∙_}
 use borrow.Author.Tests.{lt-ltb, le-ltb}
 use Rattle.lists.proofs.Tests.{pick-true, pick-false}
@@ -7,9 +8,6 @@ use Rattle.course.specs.Course.{nextNumber}
 use borrow.Author.Needs.{needs}
 use Rattle.course.proofs.next_number.Statement.{statement}
 use Rattle.course.proofs.next_number.Tie as tie
-
-add-result : tie.Need-add-result
-add-result c = search needs
 
 returns : tie.Need-returns
 unfolding nextNumber
@@ -20,4 +18,4 @@ unfolding nextNumber
 returns-2 c = sym (pick-false _ _ (le-ltb (c .before .args .x) (c .before .args .lines) (c .if1 .left)))
 
 pub next-number-spec : {M : Type 1} → statement M
-next-number-spec = tie.close (tie.spec add-result returns returns-2)
+next-number-spec = tie.close (tie.spec (need tie.Need-add-result (λ c. search needs)) returns returns-2)

@@ -3,7 +3,7 @@ use Rattle.lists.proofs.Needs.{need}
 use borrow.Author.Needs.{needs}
 use borrow.Author.Tests.{eq-eqb, ne-eqb}
 use mathlib.Core.Path.{_≡_, refl, sym, ap, _∙_}
-use Prim.Native.Nat.{ℕ, _+_, _≤_, _-_}
+use Prim.Native.Nat.{_+_, _≤_, _-_}
 use mathlib.Core.Bool.{Bool, true, _&&_}
 use denote.Ref.{now}
 use lib.ListN.{length, getD, drop}
@@ -20,9 +20,6 @@ abbrev μ-loop : tie.MeasureT-loop
 
 returns : tie.Need-returns Inv-loop μ-loop
 returns c = sym (same-lengths (now (c .before .args .s)) (now (c .before .args .t)) (c .if1 .taken))
-
-loop-holds : tie.Need-loop-holds Inv-loop μ-loop
-loop-holds c = (search needs, search needs, refl)
 
 returns-2 : tie.Need-returns-2 Inv-loop μ-loop
 returns-2 c =
@@ -48,6 +45,6 @@ returns-3 c =
 pub same-bytes-spec : {M : Type 1} → statement M
 same-bytes-spec =
     tie.close (tie.spec
-    Inv-loop μ-loop returns loop-holds (need (tie.Need-shared-slice-read-if2 Inv-loop μ-loop) (λ c. search needs))
+    Inv-loop μ-loop returns (need (tie.Need-loop-holds Inv-loop μ-loop) (λ c. search needs)) (need (tie.Need-shared-slice-read-if2 Inv-loop μ-loop) (λ c. search needs))
     (need (tie.Need-shared-slice-read-if2-2 Inv-loop μ-loop) (λ c. search needs)) returns-2 (need (tie.Need-add-i Inv-loop μ-loop) (λ c. search needs))
     (need (tie.Need-loop-less Inv-loop μ-loop) (λ c. search needs)) loop-again returns-3)

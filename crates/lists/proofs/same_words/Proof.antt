@@ -1,9 +1,9 @@
 -- `lists::same_words` meets its contract. Assumes nothing.
 use Rattle.lists.proofs.Needs.{need}
 use borrow.Author.Needs.{needs}
-use mathlib.Core.Path.{_≡_, refl, sym, ap, ap₂, _∙_}
-use Prim.Native.Nat.{ℕ, _+_, _≤_, _-_}
-use mathlib.Core.Bool.{Bool, _&&_}
+use mathlib.Core.Path.{_≡_, refl, sym, _∙_}
+use Prim.Native.Nat.{_≤_, _-_}
+use mathlib.Core.Bool.{_&&_}
 use denote.Ref.{now}
 use lib.ListN.{length, drop}
 use Rattle.lists.specs.Lists.{same}
@@ -20,9 +20,6 @@ abbrev μ-loop : tie.MeasureT-loop
 returns : tie.Need-returns Inv-loop μ-loop
 returns c = sym (same-lengths (now (c .before .args .s)) (now (c .before .args .t)) (c .if1 .taken))
 
-loop-holds : tie.Need-loop-holds Inv-loop μ-loop
-loop-holds c = (search needs, search needs, refl)
-
 loop-again : tie.Need-loop-again Inv-loop μ-loop
 loop-again c =
     let l = c .before .before .before .loop in
@@ -36,7 +33,7 @@ returns-2 c =
 pub same-words-spec : {M : Type 1} → statement M
 same-words-spec =
     tie.close (tie.spec
-    Inv-loop μ-loop returns loop-holds (need (tie.Need-mul-ok Inv-loop μ-loop) (λ c. search needs))
+    Inv-loop μ-loop returns (need (tie.Need-loop-holds Inv-loop μ-loop) (λ c. search needs)) (need (tie.Need-mul-ok Inv-loop μ-loop) (λ c. search needs))
     (need (tie.Need-shared-slice-read-ok Inv-loop μ-loop) (λ c. search needs)) (need (tie.Need-mul-ok-2 Inv-loop μ-loop) (λ c. search needs))
     (need (tie.Need-shared-slice-read-ok-2 Inv-loop μ-loop) (λ c. search needs)) (need (tie.Need-add-i Inv-loop μ-loop) (λ c. search needs))
     (need (tie.Need-loop-less Inv-loop μ-loop) (λ c. search needs)) loop-again returns-2)

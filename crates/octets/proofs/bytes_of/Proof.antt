@@ -19,9 +19,6 @@ Inv-loop words out₀ n i₀ out i = (i ≤ n) × (n ≡ min (length words) (len
 abbrev μ-loop : tie.MeasureT-loop
 μ-loop words out₀ n i₀ out i = n - i
 
-loop-holds : tie.Need-loop-holds Inv-loop μ-loop
-loop-holds c = let a = c .before .before .before .args in (search needs, c .smaller-of .ensures, refl, paste-zero (now (a .out)) 0 (bytesOf (now (a .words))))
-
 slice-write-out-2 : tie.Need-slice-write-out-2 Inv-loop μ-loop
 slice-write-out-2 c =
     let l = c .before .before .before .before .before .loop in
@@ -54,7 +51,7 @@ returns c =
 pub bytes-of-spec : {M : Type 1} → statement M
 bytes-of-spec =
     tie.close (tie.spec
-    Inv-loop μ-loop (need (tie.Need-smaller-of-requires Inv-loop μ-loop) (λ c κs. search needs)) loop-holds
+    Inv-loop μ-loop (need (tie.Need-smaller-of-requires Inv-loop μ-loop) (λ c κs. search needs)) (need (tie.Need-loop-holds Inv-loop μ-loop) (λ c. search needs))
     (need (tie.Need-mul-low Inv-loop μ-loop) (λ c. search needs)) (need (tie.Need-shared-slice-read-low Inv-loop μ-loop) (λ c. search needs))
     (need (tie.Need-low-requires Inv-loop μ-loop) (λ c κs. search needs)) (need (tie.Need-mul-out Inv-loop μ-loop) (λ c. search needs))
     (need (tie.Need-slice-write-out Inv-loop μ-loop) (λ c. search needs)) (need (tie.Need-mul-high Inv-loop μ-loop) (λ c. search needs))

@@ -1,4 +1,5 @@
 -- `octets::digit_more` meets its contract. Assumes nothing.
+use Rattle.lists.proofs.Needs.{need}
 use Rattle.octets.proofs.NumberLaws.{large, below, above, digit}
 use borrow.Author.Needs.{needs}
 use Rattle.octets.proofs.digit_more.Statement.{statement}
@@ -13,18 +14,9 @@ returns-2 c = let a = c .before .before .args in below (a .x) (a .b) (search nee
 returns-3 : tie.Need-returns-3
 returns-3 c = let a = c .before .before .before .args in above (a .x) (a .b) (search needs) (search needs)
 
-mul-result : tie.Need-mul-result
-mul-result c = search needs
-
-cast-result : tie.Need-cast-result
-cast-result c = search needs
-
-add-result : tie.Need-add-result
-add-result c = search needs
-
 returns-4 : tie.Need-returns-4
 returns-4 c = let a = c .before .before .before .args in digit (a .x) (a .b) (search needs) (search needs) (search needs)
 
 pub digit-more-spec : {M : Type 1} → statement M
 digit-more-spec =
-    tie.close (tie.spec returns returns-2 returns-3 mul-result cast-result add-result returns-4)
+    tie.close (tie.spec returns returns-2 returns-3 (need tie.Need-mul-result (λ c. search needs)) (need tie.Need-cast-result (λ c. search needs)) (need tie.Need-add-result (λ c. search needs)) returns-4)

@@ -20,9 +20,6 @@ abbrev μ-loop : tie.MeasureT-loop
 returns : tie.Need-returns Inv-loop μ-loop
 returns c = empty (now (c .before .before .args .text)) (c .if1 .taken)
 
-loop-holds : tie.Need-loop-holds Inv-loop μ-loop
-loop-holds c = (search needs, refl)
-
 loop-again : tie.Need-loop-again Inv-loop μ-loop
 loop-again c =
     let l = c .before .before .before .loop in
@@ -39,6 +36,6 @@ returns-2 c =
 pub number-of-spec : {M : Type 1} → statement M
 number-of-spec =
     tie.close (tie.spec
-    Inv-loop μ-loop returns loop-holds (need (tie.Need-shared-slice-read-digit-more Inv-loop μ-loop) (λ c. search needs))
+    Inv-loop μ-loop returns (need (tie.Need-loop-holds Inv-loop μ-loop) (λ c. search needs)) (need (tie.Need-shared-slice-read-digit-more Inv-loop μ-loop) (λ c. search needs))
     (need (tie.Need-digit-more-requires Inv-loop μ-loop) (λ c κs. search needs)) (need (tie.Need-add-i Inv-loop μ-loop) (λ c. search needs))
     (need (tie.Need-loop-less Inv-loop μ-loop) (λ c. search needs)) loop-again returns-2)

@@ -21,9 +21,6 @@ Inv-loop bytes out₀ n i₀ out i = (i ≤ n) × (n ≡ min (length bytes / 2) 
 abbrev μ-loop : tie.MeasureT-loop
 μ-loop bytes out₀ n i₀ out i = n - i
 
-loop-holds : tie.Need-loop-holds Inv-loop μ-loop
-loop-holds c = let a = c .before .before .before .args in (search needs, c .smaller-of .ensures, refl, paste-zero (now (a .out)) 0 (wordsOf (now (a .bytes))))
-
 loop-again : tie.Need-loop-again Inv-loop μ-loop
 loop-again c =
     let l = c .before .before .before .before .loop in
@@ -51,7 +48,7 @@ returns c =
 pub words-of-spec : {M : Type 1} → statement M
 words-of-spec =
     tie.close (tie.spec
-    Inv-loop μ-loop (need (tie.Need-smaller-of-requires Inv-loop μ-loop) (λ c κs. search needs)) loop-holds
+    Inv-loop μ-loop (need (tie.Need-smaller-of-requires Inv-loop μ-loop) (λ c κs. search needs)) (need (tie.Need-loop-holds Inv-loop μ-loop) (λ c. search needs))
     (need (tie.Need-mul-joined Inv-loop μ-loop) (λ c. search needs)) (need (tie.Need-shared-slice-read-joined Inv-loop μ-loop) (λ c. search needs))
     (need (tie.Need-mul-joined-2 Inv-loop μ-loop) (λ c. search needs)) (need (tie.Need-add-joined Inv-loop μ-loop) (λ c. search needs))
     (need (tie.Need-shared-slice-read-joined-2 Inv-loop μ-loop) (λ c. search needs))

@@ -1,4 +1,5 @@
 -- `rows::add_decimal` meets its contract. It calls itself at the number's tenth, so the number is its measure. Assumes nothing.
+use Rattle.lists.proofs.Needs.{need}
 use mathlib.Core.Path.{sym, ap, _∙_}
 use mathlib.Core.List.{[], _∷_}
 use Prim.Native.Nat.{ℕ, _/_, _%_, _<_}
@@ -12,7 +13,7 @@ use borrow.Fn.Kinds.{In}
 use borrow.Fn.PlainCycle.{Measures, is, falls, and}
 use Rattle.rows.proofs.add_decimal.Reads as add-decimal
 use Rattle.rows.proofs.add_decimal.Kinds as add-decimal-kinds
-use Rattle.rows.proofs.+add_decimal.Lts-add_decimal as add-decimal-lts
+use Rattle.rows.proofs.+add_decimal.Lts-add_decimal as lts
 use Rattle.rows.proofs.add_byte.Reads as add-byte-reads
 use Rattle.rows.proofs.+add_decimal.{statement}
 use Rattle.rows.proofs.+add_decimal.Tie.{close}
@@ -20,85 +21,21 @@ use Rattle.rows.proofs.+add_decimal.Tie.{close}
 abbrev μ-add-decimal : Measures 0 add-decimal-kinds.ps ℕ
 μ-add-decimal κs a = a .1 .0
 
-abbrev add-decimal-at : ℕ → In 0 add-decimal-kinds.ps
-add-decimal-at t =
-    and 0 add-decimal-kinds.ps (is 0 add-decimal-kinds.ps μ-add-decimal t) add-decimal.Pre
+-- the call at a number, and what it knows of the calls in it
+abbrev at : ℕ → In 0 add-decimal-kinds.ps
+at t = and 0 add-decimal-kinds.ps (is 0 add-decimal-kinds.ps μ-add-decimal t) add-decimal.Pre
 
-abbrev add-decimal-below : ℕ → In 0 add-decimal-kinds.ps
-add-decimal-below t =
-    and 0 add-decimal-kinds.ps (falls 0 add-decimal-kinds.ps _<_ μ-add-decimal t) add-decimal.Pre
+abbrev claims : ℕ → lts.Claims
+claims t = (add-byte-reads.Asked, add-byte-reads.Learnt, and 0 add-decimal-kinds.ps (falls 0 add-decimal-kinds.ps _<_ μ-add-decimal t) add-decimal.Pre, add-decimal.Post)
 
-add-decimal-cast-add-byte : (t : ℕ) → add-decimal-lts.Need-cast-add-byte (
-  add-byte-reads.Asked,
-  add-byte-reads.Learnt,
-  add-decimal-below t,
-  add-decimal.Post,
-) (add-decimal-at t) add-decimal.Post
-add-decimal-cast-add-byte t c = search needs
+returns : (t : ℕ) → lts.Need-returns (claims t) (at t) add-decimal.Post
+returns t c = let a = c .before .before .args in c .add-byte .ensures ∙ sym (ap (added (a .row)) (decimal-one (a .n) (c .before .if1 .taken)))
 
-add-decimal-add-add-byte : (t : ℕ) → add-decimal-lts.Need-add-add-byte (
-  add-byte-reads.Asked,
-  add-byte-reads.Learnt,
-  add-decimal-below t,
-  add-decimal.Post,
-) (add-decimal-at t) add-decimal.Post
-add-decimal-add-add-byte t c = search needs
+add-decimal-requires : (t : ℕ) → lts.Need-add-decimal-requires (claims t) (at t) add-decimal.Post
+add-decimal-requires t c κs = (omega (arith, c .before .pre .0), tt)
 
-add-decimal-add-byte-requires : (t : ℕ) → add-decimal-lts.Need-add-byte-requires (
-  add-byte-reads.Asked,
-  add-byte-reads.Learnt,
-  add-decimal-below t,
-  add-decimal.Post,
-) (add-decimal-at t) add-decimal.Post
-add-decimal-add-byte-requires t c κs = search needs
-
-add-decimal-returns : (t : ℕ) → add-decimal-lts.Need-returns (
-  add-byte-reads.Asked,
-  add-byte-reads.Learnt,
-  add-decimal-below t,
-  add-decimal.Post,
-) (add-decimal-at t) add-decimal.Post
-add-decimal-returns t c = let a = c .before .before .args in c .add-byte .ensures ∙ sym (ap (added (a .row)) (decimal-one (a .n) (c .before .if1 .taken)))
-
-add-decimal-add-decimal-requires : (t : ℕ) → add-decimal-lts.Need-add-decimal-requires (
-  add-byte-reads.Asked,
-  add-byte-reads.Learnt,
-  add-decimal-below t,
-  add-decimal.Post,
-) (add-decimal-at t) add-decimal.Post
-add-decimal-add-decimal-requires t c κs = (omega (arith, c .before .pre .0), tt)
-
-add-decimal-cast-add-byte-2 : (t : ℕ) → add-decimal-lts.Need-cast-add-byte-2 (
-  add-byte-reads.Asked,
-  add-byte-reads.Learnt,
-  add-decimal-below t,
-  add-decimal.Post,
-) (add-decimal-at t) add-decimal.Post
-add-decimal-cast-add-byte-2 t c = search needs
-
-add-decimal-add-add-byte-2 : (t : ℕ) → add-decimal-lts.Need-add-add-byte-2 (
-  add-byte-reads.Asked,
-  add-byte-reads.Learnt,
-  add-decimal-below t,
-  add-decimal.Post,
-) (add-decimal-at t) add-decimal.Post
-add-decimal-add-add-byte-2 t c = search needs
-
-add-decimal-add-byte-requires-2 : (t : ℕ) → add-decimal-lts.Need-add-byte-requires-2 (
-  add-byte-reads.Asked,
-  add-byte-reads.Learnt,
-  add-decimal-below t,
-  add-decimal.Post,
-) (add-decimal-at t) add-decimal.Post
-add-decimal-add-byte-requires-2 t c κs = search needs
-
-add-decimal-returns-2 : (t : ℕ) → add-decimal-lts.Need-returns-2 (
-  add-byte-reads.Asked,
-  add-byte-reads.Learnt,
-  add-decimal-below t,
-  add-decimal.Post,
-) (add-decimal-at t) add-decimal.Post
-add-decimal-returns-2 t c =
+returns-2 : (t : ℕ) → lts.Need-returns-2 (claims t) (at t) add-decimal.Post
+returns-2 t c =
     let a = c .before .before .before .args in
     let last = digit (a .n % 10) in
     c .add-byte2 .ensures
@@ -106,20 +43,11 @@ add-decimal-returns-2 t c =
     ∙ sym (ap (added (a .row)) (decimal-more (a .n) (c .before .before .if1 .left) (omega arith)) ∙ added-append (a .row) (decimal (a .n / 10)) (last ∷ []))
 
 pub +add-decimal-spec : {M : Type 1} → statement M
-+add-decimal-spec = close μ-add-decimal λ t. add-decimal-lts.spec (
-  add-byte-reads.Asked,
-  add-byte-reads.Learnt,
-  add-decimal-below t,
-  add-decimal.Post,
-)
-    (add-decimal-at t)
-    add-decimal.Post
-    (add-decimal-cast-add-byte t)
-    (add-decimal-add-add-byte t)
-    (add-decimal-add-byte-requires t)
-    (add-decimal-returns t)
-    (add-decimal-add-decimal-requires t)
-    (add-decimal-cast-add-byte-2 t)
-    (add-decimal-add-add-byte-2 t)
-    (add-decimal-add-byte-requires-2 t)
-    (add-decimal-returns-2 t)
++add-decimal-spec = close μ-add-decimal λ t. lts.spec (claims t) (at t) add-decimal.Post
+    (need (lts.Need-cast-add-byte (claims t) (at t) add-decimal.Post) (λ c. search needs))
+    (need (lts.Need-add-add-byte (claims t) (at t) add-decimal.Post) (λ c. search needs))
+    (need (lts.Need-add-byte-requires (claims t) (at t) add-decimal.Post) (λ c κs. search needs))
+    (returns t) (add-decimal-requires t)
+    (need (lts.Need-cast-add-byte-2 (claims t) (at t) add-decimal.Post) (λ c. search needs))
+    (need (lts.Need-add-add-byte-2 (claims t) (at t) add-decimal.Post) (λ c. search needs))
+    (need (lts.Need-add-byte-requires-2 (claims t) (at t) add-decimal.Post) (λ c κs. search needs)) (returns-2 t)

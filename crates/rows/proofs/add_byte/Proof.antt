@@ -1,4 +1,5 @@
 -- `rows::add_byte` meets its contract. Assumes nothing.
+use Rattle.lists.proofs.Needs.{need}
 use mathlib.Core.Path.{sym}
 use borrow.Author.Tests.{lt-ltb, le-ltb}
 use Rattle.lists.proofs.Tests.{pick-true, pick-false}
@@ -6,12 +7,6 @@ use Rattle.rows.specs.Cuts.{put}
 use borrow.Author.Needs.{needs}
 use Rattle.rows.proofs.add_byte.Statement.{statement}
 use Rattle.rows.proofs.add_byte.Tie as tie
-
-array-write-bytes : tie.Need-array-write-bytes
-array-write-bytes c = search needs
-
-add-t9 : tie.Need-add-t9
-add-t9 c = search needs
 
 returns : tie.Need-returns
 unfolding put
@@ -22,4 +17,4 @@ unfolding put
 returns-2 c = sym (pick-false _ _ (le-ltb _ 48 (c .if1 .left)))
 
 pub add-byte-spec : {M : Type 1} → statement M
-add-byte-spec = tie.close (tie.spec array-write-bytes add-t9 returns returns-2)
+add-byte-spec = tie.close (tie.spec (need tie.Need-array-write-bytes (λ c. search needs)) (need tie.Need-add-t9 (λ c. search needs)) returns returns-2)

@@ -1,4 +1,5 @@
 -- `rows::begin_row` meets its contract. Assumes nothing.
+use Rattle.lists.proofs.Needs.{need}
 use mathlib.Core.Path.{sym, ap, _∙_}
 use denote.Ref.{now}
 use Rattle.rows.specs.declared.Row.{Row}
@@ -9,15 +10,6 @@ use borrow.Author.Needs.{needs}
 use Rattle.rows.proofs.begin_row.Statement.{statement}
 use Rattle.rows.proofs.begin_row.Tie as tie
 
-empty-requires : tie.Need-empty-requires
-empty-requires c κs = search needs
-
-add-text-requires : tie.Need-add-text-requires
-add-text-requires c κs = search needs
-
-add-decimal-requires : tie.Need-add-decimal-requires
-add-decimal-requires c κs = search needs
-
 returns : tie.Need-returns
 returns c =
     let a = c .before .before .before .before .args in
@@ -25,4 +17,4 @@ returns c =
     c .add-decimal .ensures ∙ ap (λ (r : Row). added r (decimal (a .n))) named ∙ sym (added-append none (now (a .name)) (decimal (a .n)))
 
 pub begin-row-spec : {M : Type 1} → statement M
-begin-row-spec = tie.close (tie.spec empty-requires add-text-requires add-decimal-requires returns)
+begin-row-spec = tie.close (tie.spec (need tie.Need-empty-requires (λ c κs. search needs)) (need tie.Need-add-text-requires (λ c κs. search needs)) (need tie.Need-add-decimal-requires (λ c κs. search needs)) returns)

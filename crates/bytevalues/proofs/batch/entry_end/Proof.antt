@@ -1,6 +1,6 @@
 -- `bytevalues::batch::entry_end` meets its contract. Assumes nothing.
 use Rattle.lists.proofs.Needs.{need}
-use mathlib.Core.Path.{_≡_, sym, ap, ap₂, _∙_}
+use mathlib.Core.Path.{sym, ap, _∙_}
 use mathlib.Core.Bool.{Bool, _&&_}
 use Prim.Native.Nat.{ℕ, _+_, _-_, _<_, _≤_}
 use native.Mathlib.Omega.{arith}
@@ -26,9 +26,6 @@ returns c =
     let few : length ws - a .at < 2 = omega (arith, c .if1 .taken, length-words (a .blocks .now)) in
     sym (pick-false _ _ (ap (λ (b : Bool). b && leb (getD ws (a .at + 1) 0) (length ws - a .at - 2)) (lt-leb 2 (length ws - a .at) few)))
 
-word-at-requires : tie.Need-word-at-requires
-word-at-requires c κs = omega (arith, c .if1 .left, length-words (c .before .before .args .blocks .now))
-
 returns-2 : tie.Need-returns-2
 unfolding entryEnd
 returns-2 c =
@@ -52,5 +49,5 @@ returns-3 c =
 pub entry-end-spec : {M : Type 1} → statement M
 entry-end-spec =
     tie.close (tie.spec
-    sub-left returns (need tie.Need-add-word-at (λ c. search needs)) word-at-requires (need tie.Need-cast-n (λ c. search needs)) returns-2
+    sub-left returns (need tie.Need-add-word-at (λ c. search needs)) (need tie.Need-word-at-requires (λ c κs. search needs)) (need tie.Need-cast-n (λ c. search needs)) returns-2
     (need tie.Need-add-result (λ c. search needs)) (need tie.Need-add-result-2 (λ c. search needs)) returns-3)

@@ -63,9 +63,6 @@ add-from c = let x = lies c in omega (arith, x .0, x .1)
 mul-to : tie.Need-mul-to Inv-loop μ-loop
 mul-to c = let x = lies c in omega (arith, x .0, x .1)
 
-word-at-requires : tie.Need-word-at-requires Inv-loop μ-loop
-word-at-requires c κs = more (c .before .before)
-
 sub-add-valued : tie.Need-sub-add-valued Inv-loop μ-loop
 sub-add-valued c = let x = lies (c .before) in omega (arith, x .0)
 
@@ -135,7 +132,7 @@ pub lay-each-spec : {M : Type 1} → statement M
 lay-each-spec =
     tie.close (tie.spec
     Inv-loop μ-loop loop-holds entry-end-requires (need (tie.Need-ended-requires Inv-loop μ-loop) (λ c κs. search needs))
-    (need (tie.Need-same-length Inv-loop μ-loop) (λ c. search needs)) returns mul-from add-from mul-to word-at-requires sub-add-valued
+    (need (tie.Need-same-length Inv-loop μ-loop) (λ c. search needs)) returns mul-from add-from mul-to (need (tie.Need-word-at-requires Inv-loop μ-loop) (λ c κs. search needs)) sub-add-valued
     part-add-valued-start part-add-valued-end (need (tie.Need-add-valued-requires Inv-loop μ-loop) (λ c κs. search needs))
     (need (tie.Need-enum-known-answer Inv-loop μ-loop) (λ c. search needs)) (need (tie.Need-ended-requires-2 Inv-loop μ-loop) (λ c κs. search needs))
     (need (tie.Need-same-length-2 Inv-loop μ-loop) (λ c. search needs)) returns-2 (need (tie.Need-enum-told Inv-loop μ-loop) (λ c. search needs))

@@ -1,10 +1,9 @@
 -- `bytevalues::values::all_below` meets its contract: the loop tests one word of the bytes after another. Assumes nothing.
 use Rattle.lists.proofs.Needs.{need}
 use mathlib.Core.Path.{ap}
-use Prim.Native.Nat.{ℕ, _-_, _/_}
+use Prim.Native.Nat.{ℕ, _-_}
 use native.Mathlib.Omega.{arith}
 use lib.Dec.{ltb}
-use lib.ListN.{length}
 use Rattle.lists.proofs.Loops.{Testing, test-start, test-turn, test-end}
 use Rattle.octets.specs.Bytes.{wordsOf}
 use Rattle.octets.proofs.BytesLaws.{length-words}
@@ -21,9 +20,6 @@ abbrev μ-loop : tie.MeasureT-loop
 loop-holds : tie.Need-loop-holds Inv-loop μ-loop
 loop-holds c = test-start _ _
 
-word-at-requires : tie.Need-word-at-requires Inv-loop μ-loop
-word-at-requires c κs = omega (arith, c .loop-test .taken, length-words (c .before .before .before .args .bytes .now))
-
 loop-again : tie.Need-loop-again Inv-loop μ-loop
 loop-again c =
     let l = c .before .before in
@@ -38,5 +34,5 @@ returns c =
 pub all-below-spec : {M : Type 1} → statement M
 all-below-spec =
     tie.close (tie.spec
-    Inv-loop μ-loop loop-holds word-at-requires (need (tie.Need-add-i Inv-loop μ-loop) (λ c. search needs))
+    Inv-loop μ-loop loop-holds (need (tie.Need-word-at-requires Inv-loop μ-loop) (λ c κs. search needs)) (need (tie.Need-add-i Inv-loop μ-loop) (λ c. search needs))
     (need (tie.Need-loop-less Inv-loop μ-loop) (λ c. search needs)) loop-again returns)

@@ -24,24 +24,6 @@ returns c =
     let h = head-none (a .room) (wordsOf (a .words .now)) (a .phase) (head-not _ _ (a .phase) (head-short _ _ few)) in
     (c .took .ensures .1 ∙ h .0, c .took .ensures .0 ∙ h .1)
 
-word-at-requires : tie.Need-word-at-requires
-word-at-requires c κs = omega (arith, many c)
-
-word-at-requires-2 : tie.Need-word-at-requires-2
-word-at-requires-2 c κs = omega (arith, many (c .before))
-
-word-at-requires-3 : tie.Need-word-at-requires-3
-word-at-requires-3 c κs = omega (arith, many (c .before .before))
-
-word-at-requires-4 : tie.Need-word-at-requires-4
-word-at-requires-4 c κs = omega (arith, many (c .before .before .before))
-
-word-at-requires-5 : tie.Need-word-at-requires-5
-word-at-requires-5 c κs = omega (arith, many (c .before .before .before .before))
-
-word-at-requires-6 : tie.Need-word-at-requires-6
-word-at-requires-6 c κs = omega (arith, many (c .before .before .before .before .before))
-
 returns-2 : tie.Need-returns-2
 returns-2 c =
     let w6 = c .before .before in
@@ -60,5 +42,5 @@ returns-2 c =
 pub take-head-spec : {M : Type 1} → statement M
 take-head-spec =
     tie.close (tie.spec
-    (need tie.Need-took-requires (λ c κs. search needs)) returns word-at-requires word-at-requires-2 word-at-requires-3 word-at-requires-4 word-at-requires-5
-    word-at-requires-6 (need tie.Need-slice-aggregate-take-head (λ c. search needs)) (need tie.Need-take-head-requires (λ c κs. search needs)) returns-2)
+    (need tie.Need-took-requires (λ c κs. search needs)) returns (need tie.Need-word-at-requires (λ c κs. search needs)) (need tie.Need-word-at-requires-2 (λ c κs. search needs)) (need tie.Need-word-at-requires-3 (λ c κs. search needs)) (need tie.Need-word-at-requires-4 (λ c κs. search needs)) (need tie.Need-word-at-requires-5 (λ c κs. search needs))
+    (need tie.Need-word-at-requires-6 (λ c κs. search needs)) (need tie.Need-slice-aggregate-take-head (λ c. search needs)) (need tie.Need-take-head-requires (λ c κs. search needs)) returns-2)

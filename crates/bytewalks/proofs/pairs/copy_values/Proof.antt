@@ -26,9 +26,6 @@ inside t = omega (arith, t .loop-test .taken, length-words (t .before .before .b
 loop-holds : tie.Need-loop-holds Inv-loop μ-loop
 loop-holds c = let a = c .before .before .args in (map-start (valueOf (a .mode)) (wordsOf (a .words .now)) (wordsOf (a .out .now)) (c .before .before .pre), refl)
 
-word-at-requires : tie.Need-word-at-requires Inv-loop μ-loop
-word-at-requires c κs = inside (c .before)
-
 put-word-requires : tie.Need-put-word-requires Inv-loop μ-loop
 put-word-requires c κs =
     let t = c .before .before .before in
@@ -58,5 +55,5 @@ returns c =
 pub copy-values-spec : {M : Type 1} → statement M
 copy-values-spec =
     tie.close (tie.spec
-    Inv-loop μ-loop loop-holds word-at-requires (need (tie.Need-value-of-requires Inv-loop μ-loop) (λ c κs. search needs)) put-word-requires
+    Inv-loop μ-loop loop-holds (need (tie.Need-word-at-requires Inv-loop μ-loop) (λ c κs. search needs)) (need (tie.Need-value-of-requires Inv-loop μ-loop) (λ c κs. search needs)) put-word-requires
     (need (tie.Need-add-i Inv-loop μ-loop) (λ c. search needs)) (need (tie.Need-loop-less Inv-loop μ-loop) (λ c. search needs)) loop-again same-length returns)

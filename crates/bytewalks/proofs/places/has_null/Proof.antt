@@ -23,12 +23,6 @@ abbrev μ-loop : tie.MeasureT-loop
 inside : (t : tie.In-loop Inv-loop μ-loop) → t .before .loop .i < length (wordsOf (t .before .before .before .args .words .now))
 inside t = omega (arith, t .loop-test .taken, length-words (t .before .before .before .args .words .now))
 
-loop-holds : tie.Need-loop-holds Inv-loop μ-loop
-loop-holds c = refl
-
-word-at-requires : tie.Need-word-at-requires Inv-loop μ-loop
-word-at-requires c κs = inside c
-
 loop-again : tie.Need-loop-again Inv-loop μ-loop
 loop-again c =
     let t = c .before .before in
@@ -46,5 +40,5 @@ returns c =
 pub has-null-spec : {M : Type 1} → statement M
 has-null-spec =
     tie.close (tie.spec
-    Inv-loop μ-loop loop-holds word-at-requires (need (tie.Need-is-null-requires Inv-loop μ-loop) (λ c κs. search needs))
+    Inv-loop μ-loop (need (tie.Need-loop-holds Inv-loop μ-loop) (λ c. search needs)) (need (tie.Need-word-at-requires Inv-loop μ-loop) (λ c κs. search needs)) (need (tie.Need-is-null-requires Inv-loop μ-loop) (λ c κs. search needs))
     (need (tie.Need-add-i Inv-loop μ-loop) (λ c. search needs)) (need (tie.Need-loop-less Inv-loop μ-loop) (λ c. search needs)) loop-again returns)

@@ -42,9 +42,6 @@ asked v =
     let a = v .before .before .before .before .before .before .before .args in
     v .is-void .ensures ∙ ap (λ (l : List ℕ). eqb (a .mode) 8 && hasNull l) (words-rest 1 (a .place .now))
 
-word-at-requires : tie.Need-word-at-requires
-word-at-requires c κs = omega (arith, c .before .pre)
-
 returns : tie.Need-returns
 returns c = sym (met-null _ _ (sym (nulled (c .before)) ∙ eq-eqb _ _ (c .if2 .taken)))
 
@@ -82,7 +79,7 @@ returns-5 c =
 pub met-at-spec : {M : Type 1} → statement M
 met-at-spec =
     tie.close (tie.spec
-    word-at-requires (need tie.Need-is-byte-requires (λ c κs. search needs)) (need tie.Need-bit-of-requires (λ c κs. search needs)) returns
+    (need tie.Need-word-at-requires (λ c κs. search needs)) (need tie.Need-is-byte-requires (λ c κs. search needs)) (need tie.Need-bit-of-requires (λ c κs. search needs)) returns
     returns-2 (need tie.Need-cast-kind (λ c. search needs)) returns-3
     sub-is-void part-is-void-start (need tie.Need-part-is-void-end (λ c. search needs)) (need tie.Need-is-void-requires (λ c κs. search needs)) returns-4
     sub-t16 returns-5)

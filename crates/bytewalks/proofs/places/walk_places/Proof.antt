@@ -64,15 +64,6 @@ loop-holds c =
 sub-loop : tie.Need-sub-loop Inv-loop μ-loop
 sub-loop c = omega (arith, c .loop .inv .0, length-words (c .before .before .before .args .words .now))
 
-add-e : tie.Need-add-e Inv-loop μ-loop
-add-e c = let h = bytes-fit c in search needs
-
-mul-b : tie.Need-mul-b Inv-loop μ-loop
-mul-b c = let h = bytes-fit c in search needs
-
-mul-f : tie.Need-mul-f Inv-loop μ-loop
-mul-f c = let h = bytes-fit c in search needs
-
 part-met-at-end : tie.Need-part-met-at-end Inv-loop μ-loop
 part-met-at-end c = bytes-fit c
 
@@ -83,19 +74,6 @@ met-at-requires c κs =
     let s = t .before .before .before .before in
     let a = s .args in
     subst (λ (l : List ℕ). 1 ≤ length l) (sym (words-part i (i + a .size) (a .words .now))) (place-some (a .size) i (wordsOf (a .words .now)) (s .pre .0) (fits t))
-
-add-put-place : tie.Need-add-put-place Inv-loop μ-loop
-add-put-place c =
-    let t = c .before .before .before .before in
-    let h = bytes-fit t in
-    let one = t .before .before .before .before .pre .0 in
-    search needs
-
-sub-put-place : tie.Need-sub-put-place Inv-loop μ-loop
-sub-put-place c = let one = c .before .before .before .before .before .before .before .before .pre .0 in omega arith
-
-part-put-place-start : tie.Need-part-put-place-start Inv-loop μ-loop
-part-put-place-start c = let one = c .before .before .before .before .before .before .before .before .pre .0 in omega arith
 
 part-put-place-end : tie.Need-part-put-place-end Inv-loop μ-loop
 part-put-place-end c = bytes-fit (c .before .before .before .before)
@@ -155,9 +133,9 @@ returns-2 c =
 pub walk-places-spec : {M : Type 1} → statement M
 walk-places-spec =
     tie.close (tie.spec
-    Inv-loop μ-loop loop-holds sub-loop add-e mul-b mul-f
+    Inv-loop μ-loop loop-holds sub-loop (need (tie.Need-add-e Inv-loop μ-loop) (λ c. search needs)) (need (tie.Need-mul-b Inv-loop μ-loop) (λ c. search needs)) (need (tie.Need-mul-f Inv-loop μ-loop) (λ c. search needs))
     (need (tie.Need-sub-met-at Inv-loop μ-loop) (λ c. search needs)) (need (tie.Need-part-met-at-start Inv-loop μ-loop) (λ c. search needs))
     part-met-at-end met-at-requires
-    (need (tie.Need-is-nothing-requires Inv-loop μ-loop) (λ c κs. search needs)) add-put-place sub-put-place part-put-place-start
+    (need (tie.Need-is-nothing-requires Inv-loop μ-loop) (λ c κs. search needs)) (need (tie.Need-add-put-place Inv-loop μ-loop) (λ c. search needs)) (need (tie.Need-sub-put-place Inv-loop μ-loop) (λ c. search needs)) (need (tie.Need-part-put-place-start Inv-loop μ-loop) (λ c. search needs))
     part-put-place-end put-place-requires same-length returns loop-less loop-again (need (tie.Need-same-length-2 Inv-loop μ-loop) (λ c. search needs))
     returns-2)

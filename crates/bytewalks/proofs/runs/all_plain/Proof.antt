@@ -30,9 +30,6 @@ inside t = omega (arith, t .loop-test .taken, length-words (t .before .before .b
 loop-holds : tie.Need-loop-holds Inv-loop μ-loop
 loop-holds c = test-start _ _
 
-word-at-requires : tie.Need-word-at-requires Inv-loop μ-loop
-word-at-requires c κs = inside c
-
 loop-again : tie.Need-loop-again Inv-loop μ-loop
 loop-again c =
     let x = c .before in
@@ -56,5 +53,5 @@ returns c =
 pub all-plain-spec : {M : Type 1} → statement M
 all-plain-spec =
     tie.close (tie.spec
-    Inv-loop μ-loop loop-holds word-at-requires (need (tie.Need-wrapping-sub-u16-requires Inv-loop μ-loop) (λ c κs. search needs))
+    Inv-loop μ-loop loop-holds (need (tie.Need-word-at-requires Inv-loop μ-loop) (λ c κs. search needs)) (need (tie.Need-wrapping-sub-u16-requires Inv-loop μ-loop) (λ c κs. search needs))
     (need (tie.Need-add-i Inv-loop μ-loop) (λ c. search needs)) (need (tie.Need-loop-less Inv-loop μ-loop) (λ c. search needs)) loop-again returns)

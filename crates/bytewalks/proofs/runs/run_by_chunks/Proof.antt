@@ -31,31 +31,8 @@ bytes-fit : (t : tie.In-loop Inv-loop μ-loop) →
     2 * (t .before .loop .i + a .n) ≤ length (a .words .now)
 bytes-fit t = omega (arith, fits t, length-words (t .before .before .before .args .words .now))
 
-loop-holds : tie.Need-loop-holds Inv-loop μ-loop
-loop-holds c = (omega arith, zero-add _)
-
 sub-loop : tie.Need-sub-loop Inv-loop μ-loop
 sub-loop c = omega (arith, c .loop .inv .0, length-words (c .before .before .args .words .now))
-
-add-e : tie.Need-add-e Inv-loop μ-loop
-add-e c = let h = bytes-fit c in search needs
-
-mul-b : tie.Need-mul-b Inv-loop μ-loop
-mul-b c = let h = bytes-fit c in search needs
-
-mul-f : tie.Need-mul-f Inv-loop μ-loop
-mul-f c = let h = bytes-fit c in search needs
-
-part-all-plain-end : tie.Need-part-all-plain-end Inv-loop μ-loop
-part-all-plain-end c = bytes-fit c
-
-returns : tie.Need-returns Inv-loop μ-loop
-returns c = c .before .before .before .before .loop .inv
-
-loop-less : tie.Need-loop-less Inv-loop μ-loop
-loop-less c =
-    let t = c .before .before .before in
-    omega (arith, t .loop-test .taken, t .before .before .before .pre)
 
 loop-again : tie.Need-loop-again Inv-loop μ-loop
 loop-again c =
@@ -70,12 +47,9 @@ loop-again c =
           ∙ l .inv .1,
     )
 
-returns-2 : tie.Need-returns-2 Inv-loop μ-loop
-returns-2 c = c .before .loop .inv
-
 pub run-by-chunks-spec : {M : Type 1} → statement M
 run-by-chunks-spec =
     tie.close (tie.spec
-    Inv-loop μ-loop loop-holds sub-loop add-e mul-b mul-f (need (tie.Need-sub-all-plain Inv-loop μ-loop) (λ c. search needs))
-    (need (tie.Need-part-all-plain-start Inv-loop μ-loop) (λ c. search needs)) part-all-plain-end
-    (need (tie.Need-all-plain-requires Inv-loop μ-loop) (λ c κs. search needs)) returns loop-less loop-again returns-2)
+    Inv-loop μ-loop (need (tie.Need-loop-holds Inv-loop μ-loop) (λ c. search needs)) sub-loop (need (tie.Need-add-e Inv-loop μ-loop) (λ c. search needs)) (need (tie.Need-mul-b Inv-loop μ-loop) (λ c. search needs)) (need (tie.Need-mul-f Inv-loop μ-loop) (λ c. search needs)) (need (tie.Need-sub-all-plain Inv-loop μ-loop) (λ c. search needs))
+    (need (tie.Need-part-all-plain-start Inv-loop μ-loop) (λ c. search needs)) (need (tie.Need-part-all-plain-end Inv-loop μ-loop) (λ c. search needs))
+    (need (tie.Need-all-plain-requires Inv-loop μ-loop) (λ c κs. search needs)) (need (tie.Need-returns Inv-loop μ-loop) (λ c. search needs)) (need (tie.Need-loop-less Inv-loop μ-loop) (λ c. search needs)) loop-again (need (tie.Need-returns-2 Inv-loop μ-loop) (λ c. search needs)))

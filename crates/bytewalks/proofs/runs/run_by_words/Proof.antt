@@ -29,12 +29,6 @@ asked : (x : tie.After-stops Inv-loop μ-loop) (b : Bool) →
     x .stops .result ≡ b → stopsBy (t .before .before .before .args .mode) (getD (wordsOf (t .before .before .before .args .words .now)) (t .before .loop .i) 0) ≡ b
 asked x b e = ap (stopsBy (x .before .before .before .before .before .args .mode)) (sym (x .before .word-at .ensures)) ∙ sym (x .stops .ensures) ∙ e
 
-loop-holds : tie.Need-loop-holds Inv-loop μ-loop
-loop-holds c = (omega arith, zero-add _)
-
-word-at-requires : tie.Need-word-at-requires Inv-loop μ-loop
-word-at-requires c κs = inside c
-
 returns : tie.Need-returns Inv-loop μ-loop
 returns c =
     let t = c .before .before .before in
@@ -51,5 +45,5 @@ returns-2 c = run-out _ _ (c .before .loop .i) (omega (arith, c .loop-test .left
 pub run-by-words-spec : {M : Type 1} → statement M
 run-by-words-spec =
     tie.close (tie.spec
-    Inv-loop μ-loop loop-holds word-at-requires (need (tie.Need-stops-requires Inv-loop μ-loop) (λ c κs. search needs)) returns
+    Inv-loop μ-loop (need (tie.Need-loop-holds Inv-loop μ-loop) (λ c. search needs)) (need (tie.Need-word-at-requires Inv-loop μ-loop) (λ c κs. search needs)) (need (tie.Need-stops-requires Inv-loop μ-loop) (λ c κs. search needs)) returns
     (need (tie.Need-add-i Inv-loop μ-loop) (λ c. search needs)) (need (tie.Need-loop-less Inv-loop μ-loop) (λ c. search needs)) loop-again returns-2)

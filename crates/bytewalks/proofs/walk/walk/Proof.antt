@@ -4,7 +4,7 @@ use mathlib.Core.Path.{_≡_, refl, sym, ap, ap₂, _∙_}
 use mathlib.Core.List.{List}
 use Prim.Native.Nat.{ℕ, _-_, _+_, _*_, _<_, _≤_}
 use native.Mathlib.Omega.{arith}
-use lib.ListN.{length, getD, drop}
+use lib.ListN.{length}
 use Rattle.words.specs.Modes.{valueOf}
 use Rattle.octets.specs.Bytes.{wordsOf}
 use Rattle.octets.proofs.BytesLaws.{length-words, words-rest}
@@ -107,9 +107,6 @@ inside e =
     let t = e .before .before .before .before in
     omega (arith, e .if1 .left, length-words (t .before .before .before .before .before .before .before .before .before .before .args .words .now))
 
-word-at-requires : tie.Need-word-at-requires Inv-loop μ-loop
-word-at-requires c κs = inside c
-
 add-i-3 : tie.Need-add-i-3 Inv-loop μ-loop
 add-i-3 c =
     let e = c .before .before .before .before .before in
@@ -155,7 +152,7 @@ walk-spec =
     (need (tie.Need-sub-take-head Inv-loop μ-loop) (λ c. search needs)) (need (tie.Need-part-take-head-start Inv-loop μ-loop) (λ c. search needs))
     (need (tie.Need-part-take-head-end Inv-loop μ-loop) (λ c. search needs)) (need (tie.Need-take-head-requires Inv-loop μ-loop) (λ c κs. search needs))
     add-i mul-e sub-take-run part-take-run-start (need (tie.Need-part-take-run-end Inv-loop μ-loop) (λ c. search needs))
-    (need (tie.Need-take-run-requires Inv-loop μ-loop) (λ c κs. search needs)) add-i-2 (need (tie.Need-same-length Inv-loop μ-loop) (λ c. search needs)) returns word-at-requires
+    (need (tie.Need-take-run-requires Inv-loop μ-loop) (λ c κs. search needs)) add-i-2 (need (tie.Need-same-length Inv-loop μ-loop) (λ c. search needs)) returns (need (tie.Need-word-at-requires Inv-loop μ-loop) (λ c κs. search needs))
     (need (tie.Need-take-word-requires Inv-loop μ-loop) (λ c κs. search needs)) add-i-3
     (need (tie.Need-is-nothing-requires Inv-loop μ-loop) (λ c κs. search needs)) (need (tie.Need-same-length-2 Inv-loop μ-loop) (λ c. search needs))
     returns-2 (need (tie.Need-loop-less Inv-loop μ-loop) (λ c. search needs)) loop-again

@@ -1,6 +1,6 @@
 -- `bytewriter::batch::add_blocks` meets its contract. Assumes nothing.
 use Rattle.lists.proofs.Needs.{need}
-use mathlib.Core.Path.{_≡_, refl, sym, ap, ap₂, _∙_}
+use mathlib.Core.Path.{_≡_, refl, sym, ap₂, _∙_}
 use mathlib.Core.Bool.{Bool, true, _||_, not}
 use native.Mathlib.Omega.{arith}
 use lib.ListN.{replicate}

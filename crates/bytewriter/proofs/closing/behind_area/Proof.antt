@@ -2,7 +2,6 @@
 use mathlib.Core.Path.{sym}
 use borrow.Author.Tests.{eq-eqb, ne-eqb}
 use Rattle.lists.proofs.Tests.{pick-true, pick-false}
-use borrow.Author.Needs.{needs}
 use Rattle.bytewriter.proofs.closing.behind_area.Statement.{statement}
 use Rattle.bytewriter.proofs.closing.behind_area.Tie as tie
 

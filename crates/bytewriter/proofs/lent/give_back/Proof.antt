@@ -1,7 +1,7 @@
 -- `bytewriter::lent::give_back` meets its contract: the part of the bytes that stands for the part of the words is filled with its bytes. Assumes nothing.
 use Rattle.lists.proofs.Needs.{need}
 use mathlib.Core.Path.{_≡_, sym, ap, _∙_}
-use Prim.Native.Nat.{ℕ, _+_, _-_, _*_, _%_, _<_, _≤_}
+use Prim.Native.Nat.{ℕ, _+_, _-_, _*_, _≤_}
 use native.Mathlib.Omega.{arith}
 use denote.Ref.{now}
 use lib.ListN.{length, take, drop}

@@ -3,7 +3,7 @@ use Rattle.lists.proofs.Needs.{need}
 use mathlib.Core.Path.{_≡_, refl, sym, ap, _∙_}
 use Prim.Native.Nat.{_+_, _-_, _*_, _%_, _≤_}
 use native.Mathlib.Omega.{arith}
-use lib.ListN.{length, take}
+use lib.ListN.{length}
 use lib.Seq.{paste, paste-zero, length-take-le}
 use borrow.Author.Tests.{eqb-true}
 use Rattle.octets.specs.Bytes.{wordsOf, bytesOf}

@@ -16,7 +16,7 @@ returns c =
 returns-2 : tie.Need-returns-2
 returns-2 c =
     let g = c .before .before .before .before .before .before .before .before .args in
-    c .before .before .put-fields .ensures ∙ sym (ap (λ (r : Report). eventImage r (g .consumed)) (c .before .before .before .before .enum-told .given .1)) ∙ sym (pick-true _ _ (eq-eqb _ _ (c .before .before .before .before .before .before .if1 .left)))
+    c .before .before .put-number .ensures ∙ sym (ap (λ (r : Report). eventImage r (g .consumed)) (c .before .before .before .before .enum-told .given .1)) ∙ sym (pick-true _ _ (eq-eqb _ _ (c .before .before .before .before .before .before .if1 .left)))
 
 returns-3 : tie.Need-returns-3
 returns-3 c =
@@ -26,4 +26,4 @@ returns-3 c =
 pub put-event-spec : {M : Type 1} → statement M
 put-event-spec =
     tie.close (tie.spec
-    returns (need tie.Need-enum-told (λ c. search needs)) (need tie.Need-put-fields-requires (λ c κs. search needs)) (need tie.Need-enum-known-report (λ c. search needs)) (need tie.Need-put-told-requires (λ c κs. search needs)) (need tie.Need-same-length (λ c. search needs)) returns-2 (need tie.Need-same-length-2 (λ c. search needs)) returns-3)
+    returns (need tie.Need-enum-told (λ c. search needs)) (need tie.Need-put-number-requires (λ c κs. search needs)) (need tie.Need-enum-known-report (λ c. search needs)) (need tie.Need-put-told-requires (λ c κs. search needs)) (need tie.Need-same-length (λ c. search needs)) returns-2 (need tie.Need-same-length-2 (λ c. search needs)) returns-3)

@@ -1,5 +1,9 @@
 -- `fields::frame::held_in` meets its contract. Assumes nothing.
 use Rattle.lists.proofs.Needs.{need}
+use mathlib.Core.Path.{_≡_}
+use native.Mathlib.Omega.{arith}
+use lib.ListN.{length}
+use Rattle.fields.proofs.JoinLaws.{part-copied}
 use Rattle.fields.specs.Frame.{heldIn}
 use borrow.Author.Needs.{needs}
 use Rattle.fields.proofs.frame.held_in.Statement.{statement}
@@ -7,7 +11,10 @@ use Rattle.fields.proofs.frame.held_in.Tie as tie
 
 returns : tie.Need-returns
 unfolding heldIn
-returns c = c .before .copy-bytes .ensures
+returns c =
+    let b = c .before .before .before .before .before .args .b .now in
+    let long : length b ≡ 80 = search needs in
+    part-copied 16 21 b _ (omega (arith, long)) (c .before .copy-bytes .ensures)
 
 pub held-in-spec : {M : Type 1} → statement M
 held-in-spec =

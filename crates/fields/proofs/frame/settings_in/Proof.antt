@@ -1,19 +1,19 @@
 -- `fields::frame::settings_in` meets its contract. Assumes nothing.
 use Rattle.lists.proofs.Needs.{need}
 use mathlib.Core.Path.{_≡_, ap, _∙_}
+use native.Mathlib.Omega.{arith}
 use lib.ListN.{length}
+use Rattle.fields.proofs.JoinLaws.{part-copied}
 use Rattle.fields.specs.Fields.{settingsFrom}
 use borrow.Author.Needs.{needs}
 use Rattle.fields.proofs.frame.settings_in.Statement.{statement}
 use Rattle.fields.proofs.frame.settings_in.Tie as tie
 
-long : (x : tie.After-all) → length (x .before .args .b .now) ≡ 80
-long x = search needs
-
 returns : tie.Need-returns
 returns c =
-    let spelt = c .settings-of .ensures ∙ ap settingsFrom (c .before .before .before .copy-bytes .ensures) in
-    (spelt, long (c .before .before .before .before .before .before))
+    let b = c .before .before .before .before .before .before .before .args .b .now in
+    let long : length b ≡ 80 = search needs in
+    c .settings-of .ensures ∙ ap settingsFrom (part-copied 37 41 b _ (omega (arith, long)) (c .before .before .before .copy-bytes .ensures))
 
 pub settings-in-spec : {M : Type 1} → statement M
 settings-in-spec =

@@ -19,9 +19,6 @@ abbrev μ-loop : tie.MeasureT-loop
 loop-holds : tie.Need-loop-holds Inv-loop μ-loop
 loop-holds c = spell-start _
 
-shared-slice-read-x : tie.Need-shared-slice-read-x Inv-loop μ-loop
-shared-slice-read-x c = omega (arith, c .before .before .loop .inv .within, c .before .loop-test .taken)
-
 cast-x : tie.Need-cast-x Inv-loop μ-loop
 cast-x c = omega (arith, c .shared-slice-known .given (c .before .before .loop .i - 1))
 
@@ -46,5 +43,5 @@ returns c = spell-end _ _ _ (c .before .loop .inv) (c .loop-test .left)
 pub number-from-spec : {M : Type 1} → statement M
 number-from-spec =
     tie.close (tie.spec
-    Inv-loop μ-loop loop-holds (need (tie.Need-sub-i Inv-loop μ-loop) (λ c. search needs)) shared-slice-read-x cast-x mul-x add-x
+    Inv-loop μ-loop loop-holds (need (tie.Need-sub-i Inv-loop μ-loop) (λ c. search needs)) (need (tie.Need-shared-slice-read-x Inv-loop μ-loop) (λ c. search needs)) cast-x mul-x add-x
     (need (tie.Need-loop-less Inv-loop μ-loop) (λ c. search needs)) loop-again returns)

@@ -22,9 +22,6 @@ loop-holds c = put-start _ _
 loop-again : tie.Need-loop-again Inv-loop μ-loop
 loop-again c = put-turn _ _ _ _ _ _ (c .before .loop .inv) (omega (arith, c .before .loop .inv .filling .same, c .loop-test .taken))
 
-same-length : tie.Need-same-length Inv-loop μ-loop
-same-length c = c .before .loop .inv .filling .same
-
 returns : tie.Need-returns Inv-loop μ-loop
 returns c =
     let a = c .before .before .args in
@@ -37,4 +34,4 @@ put-number-spec =
     tie.close (tie.spec
     Inv-loop μ-loop loop-holds (need (tie.Need-cast-out Inv-loop μ-loop) (λ c. search needs))
     (need (tie.Need-slice-write-out Inv-loop μ-loop) (λ c. search needs)) (need (tie.Need-add-i Inv-loop μ-loop) (λ c. search needs))
-    (need (tie.Need-loop-less Inv-loop μ-loop) (λ c. search needs)) loop-again same-length returns)
+    (need (tie.Need-loop-less Inv-loop μ-loop) (λ c. search needs)) loop-again (need (tie.Need-same-length Inv-loop μ-loop) (λ c. search needs)) returns)

@@ -1,11 +1,11 @@
 -- `images::reader_image::shows_phase` meets its contract. Assumes nothing.
 use Rattle.lists.proofs.Needs.{need}
-use mathlib.Core.Path.{ap, ap₂, _∙_}
+use mathlib.Core.Path.{ap, ap₂, _∙_, _≡_}
 use native.Mathlib.Omega.{arith}
 use mathlib.Core.Bool.{Bool, _&&_}
 use Prim.Native.Nat.{ℕ, _<_, _^_}
 use lib.Dec.{eqb}
-use lib.ListN.{getD}
+use lib.ListN.{getD, length}
 use Rattle.lists.specs.Lists.{same}
 use Rattle.fields.specs.Frame.{heldIn}
 use Rattle.images.specs.ReaderImage.{countBytes}
@@ -29,7 +29,7 @@ returns c =
     let b = g .b .now in
     let x = c .before .before .before .before .before .before .before .before .before .before .before .before .before .before .before .before .before .before .counted-of in
     let r = x .result in
-    let long = c .before .before .before .before .before .before .before .before .before .before .before .before .before .before .before .before .before .before .before .pre in
+    let long : length b ≡ 80 = search needs in
     let n = part-known 21 8 b _ (omega (arith, long)) (omega arith) (c .before .before .before .before .before .before .before .before .before .before .before .before .before .before .number-in .ensures) in
     let j = part-known 29 8 b _ (omega (arith, long)) (omega arith) (c .before .before .before .before .before .before .before .before .before .before .before .number-in2 .ensures) in
     let (first-less, second-less) = fits (c .before .before .before .before .before .before .before .before .before .before .before .before .before .before .before .before .before .before) in

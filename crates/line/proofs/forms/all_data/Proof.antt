@@ -14,9 +14,6 @@ Inv-loop s ok₀ i₀ ok i = Testing isData s ok i
 abbrev μ-loop : tie.MeasureT-loop
 μ-loop s ok₀ i₀ ok i = length s - i
 
-loop-holds : tie.Need-loop-holds Inv-loop μ-loop
-loop-holds c = test-start isData _
-
 loop-again : tie.Need-loop-again Inv-loop μ-loop
 loop-again c = test-turn isData _ _ _ _ (c .before .before .before .loop .inv) (c .before .before .loop-test .taken) (c .is-data .ensures)
 
@@ -26,7 +23,7 @@ returns c = test-end isData _ _ _ (c .before .loop .inv) (c .loop-test .left)
 pub all-data-spec : {M : Type 1} → statement M
 all-data-spec =
     tie.close (tie.spec
-    Inv-loop μ-loop loop-holds (need (tie.Need-mul-is-data Inv-loop μ-loop) (λ c. search needs))
+    Inv-loop μ-loop (need (tie.Need-loop-holds Inv-loop μ-loop) (λ c. search needs)) (need (tie.Need-mul-is-data Inv-loop μ-loop) (λ c. search needs))
     (need (tie.Need-shared-slice-read-is-data Inv-loop μ-loop) (λ c. search needs))
     (need (tie.Need-is-data-requires Inv-loop μ-loop) (λ c κs. search needs)) (need (tie.Need-add-i Inv-loop μ-loop) (λ c. search needs))
     (need (tie.Need-loop-less Inv-loop μ-loop) (λ c. search needs)) loop-again returns)

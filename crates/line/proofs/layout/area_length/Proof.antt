@@ -1,6 +1,6 @@
 -- `line::layout::area_length` meets its contract. Assumes nothing.
 use Prim.Native.Nat.{_-_}
-use mathlib.Core.Path.{sym, ap, _∙_}
+use mathlib.Core.Path.{sym}
 use borrow.Author.Tests.{eq-eqb, ne-eqb}
 use Rattle.lists.proofs.Tests.{pick-true, pick-false}
 use native.Mathlib.Omega.{arith}

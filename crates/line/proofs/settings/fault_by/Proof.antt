@@ -1,4 +1,5 @@
 -- `line::settings::fault_by` meets its contract. Assumes nothing.
+use Rattle.lists.proofs.Needs.{need}
 use mathlib.Core.Path.{_≡_, refl, sym, ap, _∙_}
 use mathlib.Core.Bool.{false, not}
 use lib.Dec.{eqb, ltb}
@@ -30,9 +31,6 @@ module _ (c : tie.After-block-refused) where
       let g = x .before .args in
       c .block-refused .ensures ∙ ap (λ (y : System). blockRefused (y .payload) (g .settings .block) (g .settings .flag)) (x .system-of .ensures)
 
-system-of-requires : tie.Need-system-of-requires
-system-of-requires c κs = search needs
-
 returns : tie.Need-returns
 unfolding settingsFault settingsFaults
 returns c =
@@ -50,9 +48,6 @@ returns-2 c =
     let l : LowestOf (settingsFaults (systemOf (g .system)) (g .settings)) 11 = low-miss 10 (code-good t) (low-hit 11 (lt-ltb _ _ (c .if2 .taken))) in
     l .is
 
-block-refused-requires : tie.Need-block-refused-requires
-block-refused-requires c κs = search needs
-
 returns-3 : tie.Need-returns-3
 unfolding settingsFault settingsFaults
 returns-3 c =
@@ -63,9 +58,6 @@ returns-3 c =
     let l : LowestOf (settingsFaults (systemOf (g .system)) (g .settings)) 12 =
     low-miss 10 (code-good t) (low-miss 11 (aai-good u) (low-hit 12 (sym (asked r) ∙ c .if3 .taken))) in
     l .is
-
-or-else-requires : tie.Need-or-else-requires
-or-else-requires c κs = search needs
 
 returns-4 : tie.Need-returns-4
 unfolding settingsFault settingsFaults
@@ -85,4 +77,4 @@ returns-4 c =
 pub fault-by-spec : {M : Type 1} → statement M
 fault-by-spec =
     tie.close
-    (tie.spec system-of-requires returns returns-2 block-refused-requires returns-3 or-else-requires returns-4)
+    (tie.spec (need tie.Need-system-of-requires (λ c κs. search needs)) returns returns-2 (need tie.Need-block-refused-requires (λ c κs. search needs)) returns-3 (need tie.Need-or-else-requires (λ c κs. search needs)) returns-4)

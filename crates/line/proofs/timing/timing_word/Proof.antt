@@ -5,11 +5,8 @@ use borrow.Author.Needs.{needs}
 use Rattle.line.proofs.timing.timing_word.Statement.{statement}
 use Rattle.line.proofs.timing.timing_word.Tie as tie
 
-returns : tie.Need-returns
-unfolding timingWord mathlib.Core.Bool.xor
-returns c = search needs
-
 pub timing-word-spec : {M : Type 1} → statement M
+unfolding timingWord mathlib.Core.Bool.xor
 timing-word-spec =
     tie.close (tie.spec
     (need tie.Need-bit-of-requires (λ c κs. search needs)) (need tie.Need-mul-result (λ c. search needs))
@@ -22,4 +19,4 @@ timing-word-spec =
     (need tie.Need-add-result-5 (λ c. search needs)) (need tie.Need-bit-of-requires-6 (λ c κs. search needs))
     (need tie.Need-mul-result-6 (λ c. search needs)) (need tie.Need-add-result-6 (λ c. search needs))
     (need tie.Need-bit-of-requires-7 (λ c κs. search needs)) (need tie.Need-mul-result-7 (λ c. search needs))
-    (need tie.Need-add-result-7 (λ c. search needs)) returns)
+    (need tie.Need-add-result-7 (λ c. search needs)) (need tie.Need-returns (λ c. search needs)))

@@ -20,14 +20,8 @@ abbrev μ-loop : tie.MeasureT-loop
 loop-holds : tie.Need-loop-holds Inv-loop μ-loop
 loop-holds c = map-start value (c .args .src .now) _ (c .pre)
 
-slice-write-out : tie.Need-slice-write-out Inv-loop μ-loop
-slice-write-out c = omega (arith, c .before .before .loop .inv .same, c .before .before .before .pre)
-
 loop-again : tie.Need-loop-again Inv-loop μ-loop
 loop-again c = map-turn value (c .before .before .before .args .src .now) _ _ _ _ (c .before .before .loop .inv) (c .before .loop-test .taken) refl
-
-same-length : tie.Need-same-length Inv-loop μ-loop
-same-length c = c .before .loop .inv .same
 
 returns : tie.Need-returns Inv-loop μ-loop
 returns c = map-end value (c .before .before .args .src .now) _ _ _ (c .before .loop .inv) (c .loop-test .left)
@@ -37,5 +31,5 @@ put-values-spec =
     tie.close (tie.spec
     Inv-loop μ-loop loop-holds (need (tie.Need-mul-out Inv-loop μ-loop) (λ c. search needs))
     (need (tie.Need-shared-slice-read-out Inv-loop μ-loop) (λ c. search needs)) (need (tie.Need-mul-out-2 Inv-loop μ-loop) (λ c. search needs))
-    slice-write-out (need (tie.Need-add-i Inv-loop μ-loop) (λ c. search needs)) (need (tie.Need-loop-less Inv-loop μ-loop) (λ c. search needs))
-    loop-again same-length returns)
+    (need (tie.Need-slice-write-out Inv-loop μ-loop) (λ c. search needs)) (need (tie.Need-add-i Inv-loop μ-loop) (λ c. search needs)) (need (tie.Need-loop-less Inv-loop μ-loop) (λ c. search needs))
+    loop-again (need (tie.Need-same-length Inv-loop μ-loop) (λ c. search needs)) returns)

@@ -1,4 +1,5 @@
 -- `packets::packet::lay` meets its contract. Assumes nothing.
+use Rattle.lists.proofs.Needs.{need}
 use mathlib.Core.Path.{_≡_, sym, _∙_}
 use Prim.Native.Nat.{_+_}
 use native.Mathlib.Omega.{arith}
@@ -9,15 +10,6 @@ use Rattle.packets.specs.Packet.{packetWords}
 use borrow.Author.Needs.{needs}
 use Rattle.packets.proofs.packet.lay.Statement.{statement}
 use Rattle.packets.proofs.packet.lay.Tie as tie
-
-sub-if2 : tie.Need-sub-if2
-sub-if2 c = search needs
-
-lay-whole-requires : tie.Need-lay-whole-requires
-lay-whole-requires c κs = search needs
-
-same-length : tie.Need-same-length
-same-length c = search needs
 
 returns : tie.Need-returns
 returns c =
@@ -38,4 +30,4 @@ returns-3 c =
     sym (pick-false (packetWords (a .did) (a .second) (a .values .now)) (a .out .now) (ne-eqb (length (a .out .now)) (length (a .values .now) + 7) (λ e. omega (arith, e, c .if1 .left))))
 
 pub lay-spec : {M : Type 1} → statement M
-lay-spec = tie.close (tie.spec sub-if2 lay-whole-requires same-length returns returns-2 returns-3)
+lay-spec = tie.close (tie.spec (need tie.Need-sub-if2 (λ c. search needs)) (need tie.Need-lay-whole-requires (λ c κs. search needs)) (need tie.Need-same-length (λ c. search needs)) returns returns-2 returns-3)

@@ -1,14 +1,15 @@
 -- `packets::packet::lay_summed` meets its contract. Assumes nothing.
 use Rattle.lists.proofs.Needs.{need}
-use mathlib.Core.Path.{_≡_, refl, sym, ap, ap₂, _∙_}
-use mathlib.Core.List.{List, [], _∷_, _++_, map}
-use Prim.Native.Nat.{ℕ, _+_, _-_, _%_, _≤_}
+use mathlib.Core.Path.{_≡_, sym, ap, _∙_}
+use mathlib.Core.List.{[], _∷_, _++_}
+use Prim.Native.Nat.{ℕ, _+_, _≤_, _-_}
 use native.Mathlib.Omega.{arith}
-use lib.ListN.{length, take, drop, length-map}
+use lib.ListN.{length, take, drop}
 use lib.Seq.{length-take-le, take-at}
 use Rattle.words.specs.Checksum.{checksum}
 use Rattle.packets.specs.Packet.{bodyWords}
-use Rattle.lists.proofs.Parts.{by-two}
+use Rattle.lists.proofs.Loops.{copied}
+use Rattle.lists.proofs.Parts.{by-two, behind}
 use Rattle.packets.proofs.PacketBack.{body-long}
 use borrow.Author.Needs.{needs}
 use Rattle.packets.proofs.packet.lay_summed.Statement.{statement}
@@ -51,16 +52,18 @@ returns c =
     let b = i .before .before in
     let g = b .before .before .args in
     let ws = bodyWords (g .did) (g .second) (g .values .now) in
+    let n = length (g .values .now) + 3 in
+    let laid = i .lay-body .last .1 .1 .1 .0 ++ drop n (g .out .now) in
     let summed = s .checksum-of .ensures ∙ ap checksum (front i ∙ i .lay-body .ensures) in
-    by-two (g .out .now) _ _ ws (λ (k : ℕ). checksum ws ∷ []) (length (g .values .now) + 3) (room b) (body-long (g .did) (g .second) (g .values .now)) (i .lay-body .ensures)
-    (p .copy-in .ensures ∙ ap (λ (x : ℕ). x ∷ []) summed)
+    by-two (g .out .now) _ _ ws (λ (k : ℕ). checksum ws ∷ []) n (room b) (body-long (g .did) (g .second) (g .values .now)) (i .lay-body .ensures)
+    (copied _ (take (length laid - n) (drop n laid)) _ (behind (g .out .now) (i .lay-body .last .1 .1 .1 .0) n 1 (omega (arith, b .before .before .pre)) (body i)) (p .copy-words .ensures) ∙ ap (λ (x : ℕ). x ∷ []) summed)
 
 pub lay-summed-spec : {M : Type 1} → statement M
 lay-summed-spec =
     tie.close (tie.spec
     (need tie.Need-add-n (λ c. search needs)) (need tie.Need-slice-relend-prefix-lay-body (λ c. search needs)) slice-aggregate-lay-body
     lay-body-requires (need tie.Need-slice-reshare-prefix-checksum-of (λ c. search needs)) slice-aggregate-checksum-of
-    (need tie.Need-checksum-of-requires (λ c κs. search needs)) (need tie.Need-slice-aggregate-copy-in (λ c. search needs))
-    (need tie.Need-mul-copy-in (λ c. search needs)) (need tie.Need-sub-copy-in (λ c. search needs))
-    (need tie.Need-part-copy-in-start (λ c. search needs)) (need tie.Need-part-copy-in-end (λ c. search needs))
-    (need tie.Need-copy-in-requires (λ c κs. search needs)) (need tie.Need-same-length (λ c. search needs)) returns)
+    (need tie.Need-checksum-of-requires (λ c κs. search needs)) (need tie.Need-slice-aggregate-copy-words (λ c. search needs))
+    (need tie.Need-mul-copy-words (λ c. search needs)) (need tie.Need-sub-copy-words (λ c. search needs))
+    (need tie.Need-part-copy-words-start (λ c. search needs)) (need tie.Need-part-copy-words-end (λ c. search needs))
+    (need tie.Need-copy-words-requires (λ c κs. search needs)) (need tie.Need-same-length (λ c. search needs)) returns)

@@ -1,13 +1,9 @@
 -- `writerimages::writer_image::held_writer` meets its contract: what a value of the type holds is known where the call starts, an enum's by cases. Assumes nothing.
-use mathlib.Core.Path.{_≡_, refl}
+use Rattle.lists.proofs.Needs.{need}
+use mathlib.Core.Path.{_≡_, refl, subst}
 use mathlib.Core.Bool.{true}
-use Prim.Native.Nat.{ℕ}
-use lib.ListN.{getD}
-use mir.Val.{Fits}
-use mir.Syntax.{w8}
 use Rattle.lists.proofs.Tests.{and-true}
-use Rattle.lists.proofs.Lists.{each-all}
-use Rattle.line.specs.Settings.{small}
+use Rattle.line.specs.Settings.{Held}
 use Rattle.course.specs.declared.Last.{Last}
 use Rattle.course.specs.declared.Last.the-variants.{Unknown, Number}
 use Rattle.course.specs.declared.Place.{Place}
@@ -23,11 +19,9 @@ use Rattle.writerimages.proofs.writer_image.held_writer.Tie as tie
 
 returns : tie.Need-returns
 returns c =
-    let st = c .args .w in
+    let st = c .before .before .args .w in
     let s = st .settings in
-    let to : (i : ℕ) → Fits w8 (getD (s .destination) i 0) = (λ i. search needs) in
-    let from : (i : ℕ) → Fits w8 (getD (s .source) i 0) = (λ i. search needs) in
-    let five : (i : ℕ) → Fits w8 (getD (s .reserved) i 0) = (λ i. search needs) in (
+    let h = c .held in (
       refl,
       record {
         system-byte = fits-one (st .system) (search needs);
@@ -39,30 +33,21 @@ returns c =
         used-held = fits-two (st .used) (search needs);
         code-byte = fits-one (s .code) (search needs);
         aai-byte = fits-one (s .aai) (search needs);
-        settings-held = record {
-          to = search needs;
-          from = search needs;
-          five = search needs;
-          to-bytes = each-all small (s .destination) (λ i h. fits-one _ (to i));
-          from-bytes = each-all small (s .source) (λ i h. fits-one _ (from i));
-          five-bytes = each-all small (s .reserved) (λ i h. fits-one _ (five i));
-          block-byte = search needs;
-          flag-byte = search needs;
-        };
+        settings-held = subst Held (h .ensures .0) (h .ensures .1);
       },
     )
   where
-    lasts : (x : Last) → c .args .w .last ≡ x → heldLast x ≡ true
+    lasts : (x : Last) → c .before .before .args .w .last ≡ x → heldLast x ≡ true
     lasts Unknown e = refl
-    lasts (Number n) e = let g = rw e at (c .good .0 .1 .1 .1 .1 .0) in fits-two n (search needs)
+    lasts (Number n) e = let g = rw e at (c .before .before .good .0 .1 .1 .1 .1 .0) in fits-two n (search needs)
 
-    places : (x : Place) → c .args .w .place ≡ x → heldPlace x ≡ true
+    places : (x : Place) → c .before .before .args .w .place ≡ x → heldPlace x ≡ true
     places Shut e = refl
-    places (At q) e = let g = rw e at (c .good .0 .1 .1 .1 .1 .1 .1 .0) in fits-eight q (search needs)
+    places (At q) e = let g = rw e at (c .before .before .good .0 .1 .1 .1 .1 .1 .1 .0) in fits-eight q (search needs)
 
-    rests : (x : Rest) → c .args .w .rest ≡ x → heldRest x ≡ true
+    rests : (x : Rest) → c .before .before .args .w .rest ≡ x → heldRest x ≡ true
     rests NoBlock e = refl
-    rests (Part k n j) e = let g = rw e at (c .good .0 .1 .1 .1 .1 .1 .1 .1 .0) in and-true (fits-one k (search needs)) (and-true (fits-two n (search needs)) (fits-two j (search needs)))
+    rests (Part k n j) e = let g = rw e at (c .before .before .good .0 .1 .1 .1 .1 .1 .1 .1 .0) in and-true (fits-one k (search needs)) (and-true (fits-two n (search needs)) (fits-two j (search needs)))
 
 pub held-writer-spec : {M : Type 1} → statement M
-held-writer-spec = tie.close (tie.spec returns)
+held-writer-spec = tie.close (tie.spec (need tie.Need-held-requires (λ c κs. search needs)) returns)

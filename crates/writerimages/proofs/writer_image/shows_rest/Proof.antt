@@ -1,6 +1,6 @@
 -- `writerimages::writer_image::shows_rest` meets its contract. Assumes nothing.
 use Rattle.lists.proofs.Needs.{need}
-use mathlib.Core.Path.{ap, ap₂, _∙_}
+use mathlib.Core.Path.{ap, ap₂, _∙_, _≡_}
 use native.Mathlib.Omega.{arith}
 use mathlib.Core.Bool.{Bool, _&&_}
 use Prim.Native.Nat.{ℕ}
@@ -19,7 +19,7 @@ returns c =
     let g = c .before .before .before .before .before .before .before .before .before .before .before .before .before .args in
     let b = g .b .now in
     let x = c .before .before .before .before .before .before .before .before .before .before .before .before .rest-bytes in
-    let long = c .before .before .before .before .before .before .before .before .before .before .before .before .before .pre in
+    let long : length b ≡ 80 = search needs in
     let n = part-known 29 8 b _ (omega (arith, long)) (omega arith) (c .number-in .ensures) in
     let last = ap (λ (u : ℕ). eqb u 0) (n .0) ∙ same-number 8 0 (part 29 8 b) (n .2) (omega arith) in
     let seven = seven-shown b (x .result) long (ap length (x .ensures) ∙ length-rest (g .rest)) ∙ ap (same (part 16 7 b)) (x .ensures) in

@@ -1,4 +1,5 @@
--- `rows::size` meets its contract. Assumes nothing.
+-- `lists::size` meets its contract. Assumes nothing.
+use Rattle.lists.proofs.Needs.{need}
 use mathlib.Core.Path.{_≡_, refl, ap, subst, _∙_}
 use mathlib.Core.Bool.{true, false}
 use Prim.Native.Nat.{zero, suc}
@@ -11,8 +12,8 @@ use mir.Val.{SFits, Fits, toZ, ofZ}
 use mir.Facts.{toZ-ofZ, sfits-widen, sfits-toZ, fits-ofZ, fits-natAbs}
 use borrow.Author.Needs.{needs}
 use borrow.Author.Tests.{ltb-true}
-use Rattle.rows.proofs.size.Statement.{statement}
-use Rattle.rows.proofs.size.Tie as tie
+use Rattle.lists.proofs.size.Statement.{statement}
+use Rattle.lists.proofs.size.Tie as tie
 
 neg-fits : (z : ℤ) → SFits w32 z → SFits w64 (negℤ z)
 neg-fits (pos zero) f = record { sfits = omega arith }
@@ -63,9 +64,6 @@ returns c =
 cast-result-3 : tie.Need-cast-result-3
 cast-result-3 c = (not-below (toZ w32 (ofZ w32 (c .before .args .d))) (c .if1 .left), fits-natAbs tt (sfits-toZ (fits-ofZ (c .before .fits .d))))
 
-returns-2 : tie.Need-returns-2
-returns-2 c = search needs
-
 pub size-spec : {M : Type 1} → statement M
 size-spec =
-    tie.close (tie.spec cast-result sub-result cast-result-2 returns cast-result-3 returns-2)
+    tie.close (tie.spec cast-result sub-result cast-result-2 returns cast-result-3 (need tie.Need-returns-2 (λ c. search needs)))
