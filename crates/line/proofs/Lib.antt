@@ -9,3 +9,4 @@ pub mod HeadSeen
 pub mod GapLaws
 pub mod Lines
 pub mod Examples
+pub mod FormPairs

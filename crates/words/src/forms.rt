@@ -28,7 +28,7 @@ pub fn is_byte(w: u16) -> bool
     w / 256 + parity_of(w) == 2
 }
 
-// The same as `is_byte`, asked of the word's two bytes: a loop over words takes twice as many of them at a time. A single word is asked faster by `is_byte`.
+// The same as `is_byte`, asked of the word's two bytes: where a loop asks for codes too, some machines take twice as many words at a time. A single word is asked faster by `is_byte`.
 pub fn has_byte_form(w: u16) -> bool
     ensures { λ r. ⌜ r ≡ isByte w ⌝ }
 {
