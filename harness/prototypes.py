@@ -1,4 +1,4 @@
-"""The functions that the crate host exports, and what each of them is in C and in Rust."""
+"""The functions that the crate host_c exports, and what each of them is in C and in Rust."""
 import os
 import re
 
@@ -10,11 +10,11 @@ RUST = {"u8": "{}: u8", "u32": "{}: u32", "u64": "{}: u64", "bool": "{}: bool", 
 
 def exported():
     """Each exported function: its name, its parameters as (name, type), and its result's type; no parameters where it is not marked as it has to be."""
-    for name in sorted(os.listdir("crates/host/src")):
-        with open(f"crates/host/src/{name}", encoding="utf-8") as f:
+    for name in sorted(os.listdir("crates/host_c/src")):
+        with open(f"crates/host_c/src/{name}", encoding="utf-8") as f:
             text = re.sub(r"//.*", "", f.read())
         for function, words, result in re.findall(r'extern "C" fn (\w+)\(([^)]*)\) -> (\w+)', text):
-            marked = re.search(rf'#\[no_mangle\]\s*pub extern "C" fn {function}\(', text)
+            marked = re.search(rf'#\[unsafe\(no_mangle\)\]\s*pub extern "C" fn {function}\(', text)
             parameters = [tuple(re.split(r":\s*", w.strip(), maxsplit=1)) for w in words.split(",") if w.strip()]
             yield function, parameters if marked else [], result
 

@@ -25,7 +25,7 @@ use reader::within::Report;
 use reader::{read, state};
 
 // What a call on a begun line changes: what it reports and how much it consumed, the place and the phase.
-#[derive(Drop)]
+#[derive(Clone, Copy)]
 pub struct Went {
     pub report: Report,
     pub consumed: usize,

@@ -1,5 +1,6 @@
 // The reading calls on a line and a room that are lent as bytes, two bytes a word, low byte first. Nothing is copied whole but a line that is begun: a call on a
 // begun line looks at the words that it walks over, and writes the places of the room that it fills.
+#![tactic(auto)]
 pub mod goes; // goes.rt: a call on a begun line
 
 ghost use Rattle.std.specs.Prelude.{◌≡◌, true, not, eqb, length};
@@ -13,7 +14,7 @@ use reader::state::{Event, Reader, Told};
 use reader::within::Report;
 
 // What comes of a call: refused by 1 or 2; no line begun, so that the call begins one (`start`); or a begun line gone on with.
-#[derive(Drop)]
+#[derive(Clone, Copy)]
 pub enum Outcome {
     Barred(u8),
     Starts,

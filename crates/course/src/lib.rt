@@ -1,5 +1,6 @@
 // What a writer and a reader both hold of a course of lines: the last number and the place in the line; and the part of the
 // impossible rule that is the same for both.
+#![tactic(auto)]
 ghost use Rattle.std.specs.Prelude.{◌≡◌};
 ghost use Rattle.line.specs.Systems.{system_of};
 ghost use Rattle.line.specs.Fixed.{fixed_of, size_of};
@@ -11,14 +12,14 @@ use line::fixed::Fixed;
 use line::settings::Settings;
 
 // The last accepted line number (the writer's: last opened), or none.
-#[derive(Drop)]
+#[derive(Clone, Copy)]
 pub enum Last {
     Unknown,
     Number(u16),
 }
 
 // The place in the area of the begun (open) line, or none begun.
-#[derive(Drop)]
+#[derive(Clone, Copy)]
 pub enum Place {
     Shut,
     At(usize),
@@ -99,7 +100,7 @@ fn misplaced_by(variable: bool, end: usize, size: u16, place: Place) -> bool
 }
 
 // What a call asks of the table of fixed blocks: it is looked up once a call, because a call of a fixed line moves few words.
-#[derive(Drop)]
+#[derive(Clone, Copy)]
 pub struct Looked {
     pub impossible: bool,
     pub end: usize,

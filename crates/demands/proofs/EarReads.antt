@@ -48,7 +48,7 @@ module _ (st : Reader) (line room : List ℕ) (hs : List Heard) (st' : Reader) (
 
     taken : (i : Input) → Takes st room i hs st' room' → StepsTo i
     taken i x =
-        let k = lends_keep st line room hs st' room' served lent in
+        let k = lends_keep line st room hs st' room' served lent in
         record {
           heard = x.heard;
           ear = ap₂ ear_of x.state x.room_is;

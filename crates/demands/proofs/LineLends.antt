@@ -239,11 +239,11 @@ module _ (st : Reader) (q : ℕ) (line room : List ℕ) (fit : read_fault st (le
       → Rest st q line room (heard_by z ∷ hs) st' room') (sym (by_place st line room (At q) fit at))
       (more_step st q line room walked (walk_goes st q line room at (ready st line room fit)) walked.answer.met hs st' room' refl) h k
 
-pub from_place : (st : Reader) (line room : List ℕ) (hs : List Heard) (st' : Reader) (room' : List ℕ) → Lends line st room hs st' room'
+pub from_place : (line : List ℕ) (st : Reader) (room : List ℕ) (hs : List Heard) (st' : Reader) (room' : List ℕ) → Lends line st room hs st' room'
     → (q : ℕ) → st.place ≡ At q → read_fault st (length line) (length room) ≡ 0 → Rest st q line room hs st' room'
-from_place st line room hs st' room' (last h) q at fit = rest_last st q line room fit at h
-from_place st line room hs st' room' (more {hs = ks} h k) q at fit =
-    rest_more st q line room fit at ks st' room' h (λ i f. from_place _ line _ ks st' room' k i f (call_moves st q line room fit at).fit)
+from_place line st room hs st' room' (last h) q at fit = rest_last st q line room fit at h
+from_place line st room hs st' room' (more {hs = ks} h k) q at fit =
+    rest_more st q line room fit at ks st' room' h (λ i f. from_place line _ _ ks st' room' k i f (call_moves st q line room fit at).fit)
 
 -- ---- a line from its start on
 -- all places are left, and all words
@@ -344,7 +344,7 @@ pub hears : (st : Reader) (line room : List ℕ) (hs : List Heard) (st' : Reader
     → Takes st room (own (number_of line) (settings_of line) (block_part st.system (settings_of line) line)) hs st' room'
 hears st line room hs st' room' fit at ok (last h) = absurd (accepted_last st line room fit at ok h)
 hears st line room hs st' room' fit at ok (more {hs = ks} h k) =
-    accepted_more st line room fit at ok ks st' room' (λ i f. from_place _ line _ ks st' room' k i f (fit_next st line room fit))
+    accepted_more st line room fit at ok ks st' room' (λ i f. from_place line _ _ ks st' room' k i f (fit_next st line room fit))
 
 -- ---- a refused line
 pub refuses_line : (st : Reader) (line room : List ℕ) (hs : List Heard) (st' : Reader) (room' : List ℕ) → read_fault st (length line) (length room) ≡ 0 → st.place ≡ Shut
@@ -381,12 +381,12 @@ pub record Keeps (st : Reader) (room : List ℕ) (st' : Reader) (room' : List �
   pub possible : impossible st' ≡ false
   pub long : length room' ≡ length room
 
-pub lends_keep : (st : Reader) (line room : List ℕ) (hs : List Heard) (st' : Reader) (room' : List ℕ) → read_fault st (length line) (length room) ≡ 0
+pub lends_keep : (line : List ℕ) (st : Reader) (room : List ℕ) (hs : List Heard) (st' : Reader) (room' : List ℕ) → read_fault st (length line) (length room) ≡ 0
     → Lends line st room hs st' room' → Keeps st room st' room'
-lends_keep st line room hs st' room' fit (last h) =
+lends_keep line st room hs st' room' fit (last h) =
     let s = call_same st line room fit in
     record { system = s.system; mode = s.mode; possible = read_possible st line room (ready st line room fit).state; long = s.room_long }
-lends_keep st line room hs st' room' fit (more {hs = ks} h k) =
+lends_keep line st room hs st' room' fit (more {hs = ks} h k) =
     let s = call_same st line room fit in
-    let f = lends_keep (reading st line room).told.state line (reading st line room).room ks st' room' (fit_next st line room fit) k in
+    let f = lends_keep line (reading st line room).told.state (reading st line room).room ks st' room' (fit_next st line room fit) k in
     record { system = f.system ∙ s.system; mode = f.mode ∙ s.mode; possible = f.possible; long = f.long ∙ s.room_long }

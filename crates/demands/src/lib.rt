@@ -1,1 +1,2 @@
 // The demands: definitions and theorems alone, over what the writer's and the reader's functions promise.
+#![tactic(auto)]

@@ -12,7 +12,7 @@ pub(crate) fn within(n: usize, length: usize) -> usize
 }
 
 // A part of a buffer, from an index to before another.
-#[derive(Drop)]
+#[derive(Clone, Copy)]
 pub struct Part {
     pub from: usize,
     pub to: usize,

@@ -1,5 +1,6 @@
 // Plays the steps in the file stdin and prints rows, for harness/heard to compute again: what no call from C hands out, sums of words, headers and classes.
 // All other steps are played through the calls from C, by harness/steps.c.
+#![tactic(auto)]
 mod out; // out.rt: what a row is written with
 mod steps; // steps.rt: a step is read from the text
 mod made; // made.rt: words from a seed

@@ -2,7 +2,7 @@
 // A line that begins with # is a remark, and an empty line is nothing.
 
 // What was read beside the numbers: whether the text goes on, the name's first letter (0: none yet), and how many spaces came.
-#[derive(Drop)]
+#[derive(Clone, Copy)]
 pub struct Step {
     pub more: bool,
     pub name: u8,

@@ -4,15 +4,13 @@ ghost use Rattle.calls.specs.Looking.{looked, checks, listings, lists};
 
 use hostreads::looking;
 
-#[unsafe(no_mangle)]
-pub extern "C" fn sdti_check(system: u8, mode: u8, line: &[u8], header: &mut [u8]) -> u32
+pub fn sdti_check(system: u8, mode: u8, line: &[u8], header: &mut [u8]) -> u32
     ensures { looked result header.new ≡ checks system mode line.now header.old }
 {
     looking::check_line(system, mode, line, header)
 }
 
-#[unsafe(no_mangle)]
-pub extern "C" fn sdti_list(
+pub fn sdti_list(
     system: u8,
     mode: u8,
     line: &[u8],

@@ -4,16 +4,14 @@ ghost use Rattle.calls.specs.Reading.{gave, reads, reads_within};
 
 use hostreads::reading;
 
-#[unsafe(no_mangle)]
-pub extern "C" fn sdti_read(state: &mut [u8], line: &[u8], room: &mut [u8], event: &mut [u8]) -> u32
+pub fn sdti_read(state: &mut [u8], line: &[u8], room: &mut [u8], event: &mut [u8]) -> u32
     ensures { gave result state.new room.new event.new
         ≡ reads state.old line.now room.old event.old }
 {
     reading::read_line(state, line, room, event)
 }
 
-#[unsafe(no_mangle)]
-pub extern "C" fn sdti_read_within(
+pub fn sdti_read_within(
     state: &mut [u8],
     allowance: u64,
     line: &[u8],

@@ -4,8 +4,7 @@ ghost use Rattle.calls.specs.Writing.{wrote, opens, adds, packs, closes, wrote_m
 
 use hostwrites::writing;
 
-#[unsafe(no_mangle)]
-pub extern "C" fn sdti_open(
+pub fn sdti_open(
     state: &mut [u8],
     f: bool,
     v: bool,
@@ -18,15 +17,13 @@ pub extern "C" fn sdti_open(
     writing::open_line(state, f, v, number, settings, line)
 }
 
-#[unsafe(no_mangle)]
-pub extern "C" fn sdti_add(state: &mut [u8], kind: u32, values: &[u8], line: &mut [u8]) -> u32
+pub fn sdti_add(state: &mut [u8], kind: u32, values: &[u8], line: &mut [u8]) -> u32
     ensures { wrote result state.new line.new ≡ adds state.old kind values.now line.old }
 {
     writing::add_block(state, kind, values, line)
 }
 
-#[unsafe(no_mangle)]
-pub extern "C" fn sdti_add_many(
+pub fn sdti_add_many(
     state: &mut [u8],
     blocks: &[u8],
     line: &mut [u8],
@@ -37,8 +34,7 @@ pub extern "C" fn sdti_add_many(
     writing::add_blocks(state, blocks, line, finished)
 }
 
-#[unsafe(no_mangle)]
-pub extern "C" fn sdti_packet(
+pub fn sdti_packet(
     state: &mut [u8],
     did: u8,
     second: u8,
@@ -50,8 +46,7 @@ pub extern "C" fn sdti_packet(
     writing::add_packet(state, did, second, values, line)
 }
 
-#[unsafe(no_mangle)]
-pub extern "C" fn sdti_close(state: &mut [u8], line: &mut [u8]) -> u32
+pub fn sdti_close(state: &mut [u8], line: &mut [u8]) -> u32
     ensures { wrote result state.new line.new ≡ closes state.old line.old }
 {
     writing::close_line(state, line)

@@ -16,7 +16,7 @@ use reader::state::Reader;
 const TAG: u8 = 0x52;
 
 // What is held of a block: the mark and the type; the count bytes so far; the count announced and the number collected.
-#[derive(Drop)]
+#[derive(Clone, Copy)]
 struct Counts {
     mark: [u8; 2],
     b0: u8,
@@ -202,7 +202,7 @@ fn phase_in(b: &[u8; 80]) -> Phase
 }
 
 // What 80 bytes spell: a state, and whether the bytes are its image.
-#[derive(Drop)]
+#[derive(Clone, Copy)]
 pub struct Spelt {
     pub state: Reader,
     pub image: bool,

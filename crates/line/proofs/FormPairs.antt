@@ -3,20 +3,18 @@
 use mathlib.Core.Path.{◌≡◌, refl, sym, ap, ap₂, ◌∙◌, subst₂}
 use mathlib.Core.Bool.{Bool, true, false, ◌&&◌}
 use mathlib.Core.List.{List}
-use mathlib.Core.Logic.{⊎_elim}
 use Prim.Native.Nat.{ℕ, ◌+◌, ◌-◌, ◌*◌, ◌/◌, ◌%◌, ◌^◌, ◌<◌, ◌≤◌}
 use native.Mathlib.Nat.{mod-lt}
 use native.Mathlib.Omega.{arith}
 use lib.Dec.{eqb, lit<}
 use lib.ListN.{length, get_or, drop, drop_of_length-le}
-use lib.Bits.{bit_xor, bit_or, xor_zero_l, xor_self, or_zero_l, or_add_and, and_le_l, and_le_r}
+use lib.Bits.{bit_xor, bit_or, xor_zero_l, xor_self, or_add_and, and_le_l, and_le_r}
 use borrow.Author.Tests.{eqb-true, eqb-false, eq-eqb, ne_eqb}
 use Rattle.lists.specs.Lists.{part, each}
 use Rattle.lists.proofs.Loops.{next_drop, Testing, test_start, test_chunk}
-use Rattle.lists.proofs.Tests.{both_true, and_true, true_false}
-use Rattle.words.specs.Forms.{parity, is_byte}
+use Rattle.words.specs.Forms.{is_byte}
 use Rattle.words.proofs.Xor.{Linear, linear_self, linear_shr, linear_mod, linear_xor, agree_below, xor_back}
-use Rattle.words.proofs.FormLaws.{folded, folded_is, byte_halves}
+use Rattle.words.proofs.FormLaws.{folded_is, byte_halves}
 
 -- the three folds of any number
 abbrev pub three : ℕ → ℕ

@@ -6,7 +6,7 @@ use crate::settings::Settings;
 use crate::systems;
 
 // What the check answers: 01's number of the fault, or 0; and where it is 0, what was read.
-#[derive(Drop)]
+#[derive(Clone, Copy)]
 pub struct Checked {
     pub fault: u8,
     pub number: u16,

@@ -5,7 +5,7 @@ ghost use Rattle.lists.specs.Tests.{pick};
 ghost use Rattle.line.specs.Fixed.{table, find, fixed_of, is_variable, block_refused};
 
 // A kind of fixed blocks: size with the type word, and places at each rate.
-#[derive(Drop)]
+#[derive(Clone, Copy)]
 pub struct Fixed {
     pub size: u16,
     pub at270: u16,

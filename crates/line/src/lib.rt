@@ -1,4 +1,6 @@
 // What a line is. A line is a lent sequence of u16; nothing here writes to it.
+#![tactic(auto)]
+
 pub mod systems; // systems.rt: L, P, N and code of the four systems
 pub mod fixed; // fixed.rt: the table of fixed blocks
 pub mod settings; // settings.rt: the settings and their faults 10 to 13

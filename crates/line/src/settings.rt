@@ -6,7 +6,7 @@ ghost use Rattle.line.specs.Settings.{no_settings, Held, settings_fault, same_se
 use crate::fixed::Fixed;
 use crate::{fixed, systems};
 
-#[derive(Drop)]
+#[derive(Clone, Copy)]
 pub struct Settings {
     pub code: u8,
     pub aai: u8,
@@ -75,7 +75,7 @@ fn fault_by(system: u8, row: Fixed, settings: Settings) -> u8
 }
 
 // What is found of settings: the lowest of 10 to 13 that holds, or 0, and the table's row of the block type.
-#[derive(Drop)]
+#[derive(Clone, Copy)]
 pub struct Found {
     pub fault: u8,
     pub row: Fixed,

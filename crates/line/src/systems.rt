@@ -3,7 +3,7 @@ ghost use Rattle.std.specs.Prelude.{◌≡◌};
 ghost use Rattle.line.specs.Systems.{system_of, is_system};
 
 // Line length L, payload P, lines N, and the code of P.
-#[derive(Drop)]
+#[derive(Clone, Copy)]
 pub struct System {
     pub length: usize,
     pub payload: usize,

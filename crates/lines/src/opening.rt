@@ -18,7 +18,7 @@ use writer::state;
 use writer::state::{Answer, Writer};
 
 // What opening and closing leave beside the line.
-#[derive(Drop)]
+#[derive(Clone, Copy)]
 pub struct Reply {
     pub answer: Answer,
     pub state: Writer,

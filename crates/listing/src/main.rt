@@ -3,6 +3,7 @@
 // io::write_all has written: list_line promises the text, and what is written is the text of list_line, line by line.
 // With an argument, whatever it is, the rows of the packets in a line's gap follow the line's own.
 // A program has no status. Where a read or a write fails it says why on standard error, and ends; harness/program makes a status of that.
+#![tactic(auto)]
 mod gap; // gap.rt: rows of the packets in a line's gap
 mod input;
 
@@ -16,7 +17,7 @@ use reader::state::{Event, Reader};
 use reader::{read, state};
 
 // What goes from line to line: the reader's state, whether more lines may come, and whether packets are listed too.
-#[derive(Drop)]
+#[derive(Clone, Copy)]
 pub struct Kept {
     pub state: Reader,
     pub more: bool,
@@ -48,7 +49,7 @@ fn put_row(event: Event, n: usize, text: &mut [u8]) -> usize
 }
 
 // What a line leaves beside room and text: the reader's state, and how many bytes of text its rows have.
-#[derive(Drop)]
+#[derive(Clone, Copy)]
 pub struct Left {
     pub state: Reader,
     pub length: usize,

@@ -1,5 +1,7 @@
 // What every layer would otherwise say again: two lent parts compared, bytes and words copied, the lowest number whose condition holds, the smaller of
 // two lengths and what is left of one, and how far a number is from 0.
+#![tactic(auto)]
+
 ghost use Rattle.std.specs.Prelude.{◌≡◌, eqb, nat_abs, length, ◌-◌, min};
 ghost use Rattle.lists.specs.Tests.{pick, or_next};
 ghost use Rattle.lists.specs.Lists.{same};
@@ -67,6 +69,7 @@ pub fn copy_words(s: &[u16], out: &mut [u16])
 }
 
 // The number n where its condition holds, else the number that the later conditions gave.
+#[tactic(auto, unfolding(crate::specs::Tests::pick))]
 pub fn or_else(bad: bool, n: u8, later: u8) -> u8
     ensures { result ≡ pick bad n later }
 {

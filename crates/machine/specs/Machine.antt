@@ -1,7 +1,7 @@
 -- The word machine: what one word of a variable area does, by the phase and the class of the word.
 -- It knows no line and no settings; the room's length is its capacity.
 -- Assumes nothing.
-use Rattle.std.specs.Prelude.{ℕ, ◌+◌, ◌*◌, ◌%◌, Bool, true, false, ◌&&◌, ◌||◌, not, eqb, leb, ltb}
+use Rattle.std.specs.Prelude.{ℕ, ◌+◌, ◌*◌, ◌%◌, Bool, false, ◌&&◌, ◌||◌, not, eqb, leb, ltb}
 use Rattle.lists.specs.Tests.{pick}
 use Rattle.words.specs.Class.{class_of}
 use Rattle.words.specs.declared.class.Class.{Class}

@@ -4,7 +4,7 @@ ghost use Rattle.machine.specs.Phases.{is_busy, misphased};
 ghost use Rattle.machine.specs.Walk.{collected_of};
 
 // What the type word said: a type; or, by 100h, that this is a null, which is walked like a block and not handed out.
-#[derive(Drop)]
+#[derive(Clone, Copy)]
 pub enum Mark {
     Typed(u8),
     Nulled,
@@ -12,7 +12,7 @@ pub enum Mark {
 
 // Where a block stands: idle; type awaited; the first, second, third or fourth count byte awaited, with the mark and the bytes
 // so far; data, with the count announced (0: not stated) and the number collected, the mark still held.
-#[derive(Drop)]
+#[derive(Clone, Copy)]
 pub enum Phase {
     Idle,
     Kind,

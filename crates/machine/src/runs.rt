@@ -7,7 +7,7 @@ use crate::phase::Phase;
 use words::class;
 
 // A run taken: the phase behind it, and how many words it has.
-#[derive(Drop)]
+#[derive(Clone, Copy)]
 pub struct Ran {
     pub phase: Phase,
     pub taken: usize,

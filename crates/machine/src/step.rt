@@ -11,7 +11,7 @@ use words::class;
 use words::class::Class;
 
 // What a word reports: nothing; a whole block, with type and length; or a drop, with its number.
-#[derive(Drop)]
+#[derive(Clone, Copy)]
 pub enum Met {
     Nothing,
     Whole { kind: u8, length: usize },
@@ -19,7 +19,7 @@ pub enum Met {
 }
 
 // What one word does: the next phase, what it reports, and whether its value goes into the room.
-#[derive(Drop)]
+#[derive(Clone, Copy)]
 pub struct Step {
     pub phase: Phase,
     pub met: Met,

@@ -6,7 +6,7 @@ use crate::phase::Phase;
 use crate::step::Met;
 
 // What a walk leaves beside the room: the phase, what was met, and how many words were taken.
-#[derive(Drop)]
+#[derive(Clone, Copy)]
 pub struct Walked {
     pub phase: Phase,
     pub met: Met,

@@ -1,4 +1,6 @@
 // Bytes of the outside: words from bytes and bytes from words, two bytes a word, low byte first; and a number from its text.
+#![tactic(auto)]
+
 ghost use Rattle.std.specs.Prelude.{◌≡◌, ◌+◌, ◌*◌, ◌/◌, ◌%◌, min, length, get_or};
 ghost use Rattle.std.proofs.Math.Seq.{paste};
 ghost use Rattle.octets.specs.Bytes.{words_of, bytes_of, is_even};

@@ -1,7 +1,7 @@
 // What is asked: by the words of the command line, or one of all.
 
 // The job's letter, the mode, and how many rounds.
-#[derive(Drop)]
+#[derive(Clone, Copy)]
 pub struct Asked {
     pub job: u8,
     pub mode: u8,

@@ -1,5 +1,6 @@
 // Writes lines of system 0 in memory, for measuring: `pace JOB MODE ROUNDS`. A round is eight lines. Prints the CRC register after all words of the last eight
 // lines; bench/twin.c does the same jobs in C and prints the same. With no words each job is done twice, in both modes.
+#![tactic(auto)]
 mod jobs; // jobs.rt: what the jobs write
 mod writes; // writes.rt: lines written
 mod asked; // asked.rt: the words of the command line

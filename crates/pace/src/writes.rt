@@ -6,7 +6,7 @@ use writer::state::{Laid, Writer};
 use writer::{adding, batch};
 
 // What goes from line to line: the writer's state, and the number of the next line.
-#[derive(Drop)]
+#[derive(Clone, Copy)]
 pub struct Kept {
     pub writer: Writer,
     pub number: u16,

@@ -1,7 +1,7 @@
 // What is asked: by the words of the command line, or one of all.
 
 // Checking or reading, the mode, and how many rounds.
-#[derive(Drop)]
+#[derive(Clone, Copy)]
 pub struct Asked {
     pub checks: bool,
     pub mode: u8,

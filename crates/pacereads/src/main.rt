@@ -1,6 +1,7 @@
 // Reads or checks eight lines of system 0 again and again, for measuring: `pacereads WHAT MODE ROUNDS`, WHAT being read or check. The lines' words come from
 // standard input, two bytes each, low byte first, and are kept in memory. Prints the CRC register after all words, and a digest of what was told; bench/twin.c
 // does the same in C. With no words both are done twice, in both modes.
+#![tactic(auto)]
 mod asked; // asked.rt: the words of the command line
 mod reads; // reads.rt: lines read or checked
 

@@ -5,7 +5,7 @@ use reader::state::{Event, Reader};
 use reader::{read, state};
 
 // What goes from call to call: the reader's state, the digest, and whether the line goes on.
-#[derive(Drop)]
+#[derive(Clone, Copy)]
 pub struct Heard {
     pub reader: Reader,
     pub digest: u32,

@@ -13,7 +13,7 @@ use linecheck::check;
 
 // What the listing answers: 1 or the line check's number, or 0; and where it is 0, how many packets there are, how many words the flat list has
 // and how many words of the gap they take; and the number of the bad packet that ended the list, 21, 22 or 23, or 0.
-#[derive(Drop)]
+#[derive(Clone, Copy)]
 pub struct Listed {
     pub fault: u8,
     pub packets: usize,

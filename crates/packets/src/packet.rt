@@ -9,7 +9,7 @@ use sums::checksum;
 use words::forms;
 
 // What stands at the front of a gap.
-#[derive(Drop)]
+#[derive(Clone, Copy)]
 pub enum Look {
     Nothing, // no whole flag
     Whole { did: u8, second: u8, count: u8 }, // a packet without fault; its user words are those from index 6 on

@@ -1,6 +1,7 @@
 // The player of harness/beyond: it plays steps by the writer's and the reader's own calls, also over a library that is edited to be wrong, and writes a row for
 // each call. A step is eight numbers: 1 a fresh writer and reader, of system and mode; 2 a line opened; 3 a block added, whose values follow; 4 a line closed;
 // 5 a line heard to its end; 6 a word of the line put; 0 the end.
+#![tactic(auto)]
 mod steps; // steps.rt: the numbers of a step
 mod writes; // writes.rt: the writer called
 mod hears; // hears.rt: the reader called

@@ -9,7 +9,7 @@ ghost use Rattle.reader.specs.Numbers.{jump_by};
 use course::Last;
 
 // With no last number the jump is unknown.
-#[derive(Drop)]
+#[derive(Clone, Copy)]
 pub enum Jump {
     Unknown,
     Known(i32),

@@ -24,7 +24,7 @@ use walks::{places, walk};
 
 // What a call asks before it reads: the lower of 1 and 2 that holds, or 0; and then where blocks end in the line, and the size of a fixed
 // block.
-#[derive(Drop)]
+#[derive(Clone, Copy)]
 pub struct Asked {
     pub fault: u8,
     pub end: usize,

@@ -13,7 +13,7 @@ use machine::phase::Phase;
 // The words of the room.
 pub const CAPACITY: usize = 16384;
 
-#[derive(Drop)]
+#[derive(Clone, Copy)]
 pub struct Reader {
     pub system: u8,
     pub mode: u8,
@@ -24,7 +24,7 @@ pub struct Reader {
 }
 
 // What a reading call reports. The header of a begun line stands in the state that comes back.
-#[derive(Drop)]
+#[derive(Clone, Copy)]
 pub enum Event {
     Refused {
         answer: u8,
@@ -46,7 +46,7 @@ pub enum Event {
 }
 
 // What a reading call tells: the event, and the state afterwards.
-#[derive(Drop)]
+#[derive(Clone, Copy)]
 pub struct Told {
     pub event: Event,
     pub state: Reader,

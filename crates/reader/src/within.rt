@@ -15,14 +15,14 @@ use line::fixed;
 use machine::walk;
 
 // Paused stands around the event: it is no event of the line.
-#[derive(Drop)]
+#[derive(Clone, Copy)]
 pub enum Report {
     Paused,
     Told(Event),
 }
 
 // What a call answers: the report, how many words (fixed: places) it consumed, and the state afterwards.
-#[derive(Drop)]
+#[derive(Clone, Copy)]
 pub struct Within {
     pub report: Report,
     pub consumed: usize,

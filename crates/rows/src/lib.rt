@@ -1,4 +1,5 @@
 // The listing's rows: the text of an event, and whether more follow of its line.
+#![tactic(auto)]
 ghost use Rattle.std.specs.Prelude.{◌≡◌, not, ◌++◌};
 ghost use Rattle.reader.specs.Lending.{is_last};
 ghost use Rattle.rows.specs.Text.{decimal, signed, dropped_text, space, newline};
@@ -9,7 +10,7 @@ use reader::jump::Jump;
 use reader::state::Event;
 
 // A row: its text stands in the first `length` bytes, zeros behind.
-#[derive(Drop)]
+#[derive(Clone, Copy)]
 pub struct Row {
     pub bytes: [u8; 48],
     pub length: usize,

@@ -2,7 +2,7 @@
 use crate::plan;
 
 // From one line on some are lost, and one line is spoiled; 0 is no line. `good` says that the words were understood.
-#[derive(Drop)]
+#[derive(Clone, Copy)]
 pub struct Damage {
     pub good: bool,
     pub lost: u16,

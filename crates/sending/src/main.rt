@@ -1,6 +1,7 @@
 // Writes a small transmission on standard output, of system 0 and 8-bit, two bytes a word, low byte first, as the listing program
 // reads it. Words of the command line ask for damage: `lose LINE COUNT` or `spoil LINE`. The writer lays every word of a line; here
 // data is only moved. A program has no status: why it ends early stands on standard error, and harness/program makes a status of that.
+#![tactic(auto)]
 mod damage;
 mod plan;
 
@@ -14,7 +15,7 @@ use writer::state::{Laid, Writer};
 use writer::{adding, state};
 
 // What goes from call to call: the writer's state, the block that is added next, and whether the line took none to its end.
-#[derive(Drop)]
+#[derive(Clone, Copy)]
 pub struct Kept {
     pub writer: Writer,
     pub block: usize,

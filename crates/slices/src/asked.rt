@@ -1,6 +1,6 @@
 // What is asked by the words of the command line; with none, 8-bit mode and one round.
 
-#[derive(Drop)]
+#[derive(Clone, Copy)]
 pub struct Asked {
     pub mode: u8,
     pub rounds: u16,

@@ -1,6 +1,7 @@
 // Reads eight lines of system 0 in slices of 64 words, for measuring: `slices MODE ROUNDS`, the lines' words from standard input, two bytes each, low
 // byte first. Prints the CRC register after all words and a digest of events and pauses; bench/twin.c does the same in C. It is a program of its own and no job
 // of `pace`, because a program that calls `read` and `read_within` has neither inlined.
+#![tactic(auto)]
 mod asked; // asked.rt: the words of the command line
 mod rounds; // rounds.rt: eight lines read in slices
 

@@ -4,7 +4,7 @@ use reader::within::Report;
 use reader::{state, within};
 
 // What goes from call to call: the reader's state, the digest, and whether the line goes on.
-#[derive(Drop)]
+#[derive(Clone, Copy)]
 pub struct Heard {
     pub reader: Reader,
     pub digest: u32,

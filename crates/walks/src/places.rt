@@ -99,7 +99,7 @@ fn put_place(mode: u8, met: Met, words: &[u16], room: &mut [u16])
 }
 
 // What a walk over places meets, and how many words it takes. The phase is no part of it: handed through, it would be moved in each call.
-#[derive(Drop)]
+#[derive(Clone, Copy)]
 struct Seen {
     met: Met,
     taken: usize,

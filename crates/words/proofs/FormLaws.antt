@@ -7,7 +7,7 @@ use Prim.Native.Nat.{ℕ, zero, suc, ◌+◌, ◌-◌, ◌*◌, ◌/◌, ◌%◌
 use native.Mathlib.Nat.{mod-mod}
 use native.Mathlib.Numerals.{add-one}
 use native.Mathlib.Omega.{arith}
-use lib.Dec.{T, eqb, leb, ltb, eqb→eq}
+use lib.Dec.{eqb, leb, ltb, eqb→eq}
 use lib.Pow.{mod-mod-pow, field}
 use lib.Bits.{bit_xor}
 use borrow.Author.Tests.{le-ltb, le-leb, eq-eqb, ne_eqb, ltb-true, eqb-true}

@@ -7,7 +7,7 @@ use Prim.Native.Nat.{ℕ, zero, suc, ◌+◌, ◌-◌, ◌*◌, ◌/◌, ◌%◌
 use native.Mathlib.Nat.{mul-one, mul_comm, zero-add, suc-add, div-one, mod-lt, mod-mod, mod-eq_of_lt, div-eq_of_lt, lt_of_lt_of_le}
 use native.Mathlib.Numerals.{add-one, one-add}
 use native.Mathlib.Omega.{arith}
-use lib.Dec.{lit<, T}
+use lib.Dec.{lit<}
 use lib.Arith.{lt-one, digits_lt, digits_div, digits_mod}
 use lib.Pow.{pow_pos, pow-add, pow_mono, split, shl_lt, shr_lt, shr-shr, field, mod-mod-pow}
 use lib.Bits.{bit_xor, xor_lt, xor_comm, xor_zero_r, xor_shr, xor_mod, xor_shifted, shifted_half, shifted_even}

@@ -15,7 +15,7 @@ pub const NULL_WORD: u16 = 0x100;
 // The bit of its class in the table.
 pub const NULL_BIT: u8 = 32;
 
-#[derive(Drop)]
+#[derive(Clone, Copy)]
 pub enum Class {
     Byte, // byte form
     Other, // data form, and not byte form, 100h apart

@@ -16,14 +16,14 @@ use course::Place;
 use line::{check, systems};
 
 // What adding leaves beside the line.
-#[derive(Drop)]
+#[derive(Clone, Copy)]
 pub struct Addition {
     pub answer: Laid,
     pub state: Writer,
 }
 
 // What an addition asks of its line: the mode, the block type, the size of a fixed block, where blocks end, and where the payload starts.
-#[derive(Drop)]
+#[derive(Clone, Copy)]
 pub struct Ground {
     pub mode: u8,
     pub block: u8,
@@ -33,7 +33,7 @@ pub struct Ground {
 }
 
 // What an addition moves of the state.
-#[derive(Drop)]
+#[derive(Clone, Copy)]
 pub struct Held {
     pub place: Place,
     pub rest: Rest,
@@ -41,14 +41,14 @@ pub struct Held {
 }
 
 // What one addition answers, and what is held then.
-#[derive(Drop)]
+#[derive(Clone, Copy)]
 pub struct Step {
     pub answer: Laid,
     pub held: Held,
 }
 
 // 1 or 2, or 0; and what the additions ask of the line.
-#[derive(Drop)]
+#[derive(Clone, Copy)]
 pub struct Asked {
     pub fault: u8,
     pub ground: Ground,

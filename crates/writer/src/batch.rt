@@ -9,7 +9,7 @@ use crate::state::{Laid, Writer};
 use blocks::block;
 
 // Why it stopped: all blocks were finished, one is unfinished, or one is refused with 01's number or 28.
-#[derive(Drop)]
+#[derive(Clone, Copy)]
 pub enum Stop {
     All,
     Unfinished,
@@ -17,7 +17,7 @@ pub enum Stop {
 }
 
 // What many additions leave beside the line.
-#[derive(Drop)]
+#[derive(Clone, Copy)]
 pub struct Batch {
     pub finished: usize,
     pub stop: Stop,
@@ -25,7 +25,7 @@ pub struct Batch {
 }
 
 // How many were finished, why it stopped, and what is held then.
-#[derive(Drop)]
+#[derive(Clone, Copy)]
 pub struct Run {
     pub finished: usize,
     pub stop: Stop,

@@ -9,14 +9,14 @@ use packets::list;
 use sums::crc;
 
 // An unfinished block: its type, n and the words laid (1 to n+6).
-#[derive(Drop)]
+#[derive(Clone, Copy)]
 pub enum Rest {
     NoBlock,
     Part { kind: u8, count: u16, laid: u16 },
 }
 
 // crc is that of the area words laid so far in this line, and used counts the words of its gap in which packets stand. Closing keeps used.
-#[derive(Drop)]
+#[derive(Clone, Copy)]
 pub struct Writer {
     pub system: u8,
     pub mode: u8,
@@ -29,14 +29,14 @@ pub struct Writer {
 }
 
 // What opening and closing answer.
-#[derive(Drop)]
+#[derive(Clone, Copy)]
 pub enum Answer {
     Refused(u8),
     Done,
 }
 
 // What adding answers.
-#[derive(Drop)]
+#[derive(Clone, Copy)]
 pub enum Laid {
     Refused(u8),
     Finished,

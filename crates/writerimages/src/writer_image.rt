@@ -111,7 +111,7 @@ fn rest_by(n: u8, h: &[u8; 21]) -> Rest
 }
 
 // What 80 bytes spell: a state, and whether the bytes are its image.
-#[derive(Drop)]
+#[derive(Clone, Copy)]
 pub struct Spelt {
     pub state: Writer,
     pub image: bool,

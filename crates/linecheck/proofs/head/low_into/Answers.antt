@@ -1,0 +1,20 @@
+use mathlib.Core.Path.{refl}
+use native.Mathlib.Omega.{arith}
+use Rattle.line.specs.Check.{low}
+use Rattle.lists.proofs.Loops.{map_start, map_turn, map_end}
+use Rattle.linecheck.proofs.head.low_into.Goals as goal
+
+pub loop-i-init : goal.loop-i-init
+loop-i-init c = map_start low c.args.src.now _ c.requires
+
+pub bounds-out-i : goal.bounds-out-i
+bounds-out-i c = omega (arith, c.loop-i.invariant.same, c.requires)
+
+pub loop-i-preserved : goal.loop-i-preserved
+loop-i-preserved c = map_turn low c.args.src.now _ _ _ _ c.loop-i.invariant c.loop-i-test.true refl
+
+pub shape_of-out : goal.shape_of-out
+shape_of-out c = c.loop-i.invariant.same
+
+pub returns : goal.returns
+returns c = map_end low c.args.src.now _ _ _ c.loop-i.invariant c.loop-i-test.false

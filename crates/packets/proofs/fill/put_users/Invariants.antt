@@ -1,0 +1,13 @@
+-- `packets::fill::put_users` meets its contract. Assumes nothing.
+use mathlib.Core.List.{map}
+use Prim.Native.Nat.{◌-◌}
+use lib.ListN.{length}
+use Rattle.lists.proofs.Loops.{Filling}
+use Rattle.words.specs.Forms.{data_word}
+use Rattle.packets.proofs.fill.put_users.Given as goal
+
+abbrev pub invariant-loop-i : goal.invariant-loop-i
+invariant-loop-i l = Filling (map data_word l.values) l.initial.out l.out l.i
+
+abbrev pub decreases-loop-i : goal.decreases-loop-i
+decreases-loop-i l = length l.values - l.i

@@ -1,0 +1,14 @@
+-- `words::forms::values_of` meets its contract. Assumes nothing.
+use mathlib.Core.Path.{sym}
+use borrow.Author.Tests.{eq-eqb, ne_eqb}
+use Rattle.lists.proofs.Tests.{pick_true, pick_false}
+use Rattle.words.specs.Modes.{values}
+use Rattle.words.proofs.forms.values_of.Goals as goal
+
+pub returns-then-mode-eq8 : goal.returns-then-mode-eq8
+unfolding values
+returns-then-mode-eq8 c = sym (pick_true 256 512 (eq-eqb c.args.mode 8 c.if-mode-eq8.true))
+
+pub returns-else-mode-eq8 : goal.returns-else-mode-eq8
+unfolding values
+returns-else-mode-eq8 c = sym (pick_false 256 512 (ne_eqb c.args.mode 8 c.if-mode-eq8.false))
