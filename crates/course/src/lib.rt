@@ -1,6 +1,7 @@
 // What a writer and a reader both hold of a course of lines: the last number and the place in the line; and the part of the
 // impossible rule that is the same for both.
 #![tactic(auto)]
+
 ghost use Rattle.std.specs.Prelude.{◌≡◌};
 ghost use Rattle.line.specs.Systems.{system_of};
 ghost use Rattle.line.specs.Fixed.{fixed_of, size_of};

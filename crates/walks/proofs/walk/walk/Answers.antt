@@ -66,12 +66,11 @@ returns-then-not-is_nothing c =
     (sym c.is_nothing.ensures ∙ c.if-not-is_nothing.true))
 
 pub loop-i-preserved : goal.loop-i-preserved
-loop-i-preserved c =
-    (
-      going_word _ _ _ _ _ _ (ran (goal.at.loop-i-preserved c).After-take_run-ran (headed (goal.at.loop-i-preserved c).After-take_head-head)) c.if-words-i.false c.take_word-s.result c.take_word-s.ensures.0 _ c.take_word-s.ensures.1
-          (sym c.is_nothing.ensures ∙ c.if-not-is_nothing.false),
-      c.take_word-s.auto.room ∙ c.take_run-ran.auto.room ∙ c.loop-i.invariant.1,
-    )
+loop-i-preserved c = (
+  going_word _ _ _ _ _ _ (ran (goal.at.loop-i-preserved c).After-take_run-ran (headed (goal.at.loop-i-preserved c).After-take_head-head)) c.if-words-i.false c.take_word-s.result c.take_word-s.ensures.0 _ c.take_word-s.ensures.1
+      (sym c.is_nothing.ensures ∙ c.if-not-is_nothing.false),
+  c.take_word-s.auto.room ∙ c.take_run-ran.auto.room ∙ c.loop-i.invariant.1,
+)
 
 pub returns : goal.returns
 returns c = walk_numbered _ _ _ _ _ (going_end _ _ _ _ _ _ c.loop-i.invariant.0 c.loop-i-test.false)
