@@ -1,6 +1,7 @@
 // The reading calls on a line and a room that are lent as bytes, two bytes a word, low byte first. Nothing is copied whole but a line that is begun: a call on a
 // begun line looks at the words that it walks over, and writes the places of the room that it fills.
 #![tactic(auto)]
+
 pub mod goes; // goes.rt: a call on a begun line
 
 ghost use Rattle.std.specs.Prelude.{◌≡◌, true, not, eqb, length};

@@ -1,5 +1,4 @@
 pub mod Tests
-pub mod Needs
 pub mod Refusals
 pub mod Lists
 pub mod Loops

@@ -2,7 +2,7 @@
 -- Assumes nothing.
 use mathlib.Core.Path.{◌≡◌, refl, sym, ap, ap₂, ◌∙◌}
 use mathlib.Core.Bool.{Bool, true, false, ◌&&◌, not}
-use mathlib.Core.List.{List, [], ◌∷◌, map}
+use mathlib.Core.List.{List, [], ◌∷◌}
 use Prim.Native.Nat.{ℕ, zero, suc}
 use native.Mathlib.Omega.{arith}
 use lib.Dec.{eqb, eqb-suc-zero}
@@ -28,8 +28,7 @@ use Rattle.reader.specs.declared.state.Event.TheVariants.{Refused}
 use Rattle.reader.specs.declared.state.Told.{Told}
 use Rattle.reader.specs.declared.jump.Jump.{Jump}
 use Rattle.reader.specs.Jump.{jump_from, jump_numbers}
-use Rattle.reader.specs.Events.{yes_no, event_numbers}
-use Rattle.reader.specs.State.{capacity}
+use Rattle.reader.specs.Events.{event_numbers}
 use Rattle.reader.specs.Reading.{Reply, reply, refused, goes_on, begun, starts, told_by, walk_from, read_fault, read_from, reading_in, reading}
 use Rattle.reader.specs.Numbers.{jump_by, is_open, refused_by, begun_by, start_by, later_by, place_by, read_by}
 use Rattle.reader.proofs.Accepts.{begins_by, refuses_by}

@@ -24,8 +24,7 @@ use Rattle.reader.specs.declared.state.Reader.{Reader}
 use Rattle.reader.specs.declared.state.Event.{Event}
 use Rattle.reader.specs.declared.state.Event.TheVariants.{Refused, Begun, Block, Drop, End}
 use Rattle.reader.specs.declared.state.Told.{Told}
-use Rattle.reader.specs.declared.within.Within.{Within}
-use Rattle.reader.specs.Reading.{Reply, reply, starts, walk_from, told_by, goes_from, read_fault_in, reading_in}
+use Rattle.reader.specs.Reading.{reply, starts, walk_from, told_by, goes_from, read_fault_in, reading_in}
 use Rattle.reader.specs.Lending.{is_last}
 use Rattle.reader.specs.Within.{Sliced, sliced, paused_at, tells, unit_of, walk_within, goes_within, within_in}
 use Rattle.reader.proofs.Ready.{ReadyIn, ready, in_end}

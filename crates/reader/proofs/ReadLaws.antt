@@ -32,7 +32,7 @@ use Rattle.machine.proofs.Cut.{drop_take}
 use Rattle.reader.specs.Reading.{reply, words_from, walk_from, read_fault_in, read_from, reading_in}
 use Rattle.reader.specs.Within.{walk_to}
 use Rattle.reader.specs.declared.state.Event.TheVariants.{Refused}
-use Rattle.reader.proofs.Ready.{ReadyIn, ready, at_q, in_end, words_long}
+use Rattle.reader.proofs.Ready.{ReadyIn, ready, at_q, words_long}
 use Rattle.reader.proofs.Stays.{Goes}
 use Rattle.reader.proofs.Accepts.{by_place}
 

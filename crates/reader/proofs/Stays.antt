@@ -21,7 +21,7 @@ use Rattle.line.specs.Settings.{settings_faults, settings_fault, same_settings}
 use Rattle.line.specs.Check.{low, number_of, settings_of, numbered, head_faults, payload_faults, faults, line_faults, line_fault, checked_from, checked_of}
 use Rattle.course.specs.Course.{blocks_end, misplaced}
 use Rattle.line.proofs.CheckLaws.{check_rising, fault_not_2}
-use Rattle.course.proofs.CourseLaws.{start_placed, variable_placed, grid_next, grid_left, begun, begins}
+use Rattle.course.proofs.CourseLaws.{start_placed, variable_placed, grid_next, grid_left, begins}
 use Rattle.machine.specs.declared.phase.Phase.{Phase}
 use Rattle.machine.specs.declared.phase.Phase.TheVariants.{Idle}
 use Rattle.machine.specs.declared.step.Met.{Met}

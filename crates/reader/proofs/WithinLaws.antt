@@ -1,12 +1,11 @@
 -- Laws of a reading call under an allowance: in which order it answers, and what it tells of a walk.
 -- Assumes nothing.
-use mathlib.Core.Path.{◌≡◌, refl, sym, ap, ap₂, ◌∙◌}
+use mathlib.Core.Path.{◌≡◌, refl, sym, ap, ◌∙◌}
 use mathlib.Core.Bool.{Bool, true, false, ◌&&◌}
 use mathlib.Core.List.{List, [], ◌∷◌}
-use Prim.Native.Nat.{ℕ, zero, suc, ◌+◌, ◌/◌, ◌≤◌}
-use native.Mathlib.Omega.{arith}
+use Prim.Native.Nat.{ℕ, ◌+◌, ◌/◌}
 use lib.Dec.{eqb}
-use lib.IntN.{ℤ, pos}
+use lib.IntN.{pos}
 use lib.ListN.{length}
 use borrow.Author.Tests.{eq-eqb, ne_eqb}
 use Rattle.lists.specs.Tests.{pick}
@@ -18,7 +17,6 @@ use Rattle.machine.specs.Walk.{Walk, is_nothing}
 use Rattle.reader.specs.declared.state.Reader.{Reader}
 use Rattle.reader.specs.declared.state.Event.TheVariants.{Refused}
 use Rattle.reader.specs.declared.within.Within.{Within}
-use Rattle.reader.specs.Events.{event_numbers}
 use Rattle.reader.specs.State.{capacity}
 use Rattle.reader.specs.Reading.{told_by, read_fault_in}
 use Rattle.reader.specs.Within.{Sliced, sliced, paused_at, tells, unit_of, is_pause, walk_within, goes_within, within_from, within_in, within, report_numbers, goes_by, from_by, within_by}

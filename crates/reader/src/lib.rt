@@ -1,6 +1,7 @@
 // The reader: 01's section "The reader, step by step", above the word machine. State goes in and comes back by value; line and room are
 // lent.
 #![tactic(auto)]
+
 pub mod jump; // jump.rt: the signed jump
 pub mod state; // state.rt: the state, what calls tell, and which states are impossible
 pub mod begin; // begin.rt: a line begun or refused

@@ -1,5 +1,6 @@
 // The listing's rows: the text of an event, and whether more follow of its line.
 #![tactic(auto)]
+
 ghost use Rattle.std.specs.Prelude.{◌≡◌, not, ◌++◌};
 ghost use Rattle.reader.specs.Lending.{is_last};
 ghost use Rattle.rows.specs.Text.{decimal, signed, dropped_text, space, newline};

@@ -1,16 +1,16 @@
 -- A packet added: its refusals, what it finds and leaves, and the line with it in its gap.
 -- Assumes nothing.
-use mathlib.Core.Path.{◌≡◌, refl, sym, ap, ap₂, ◌∙◌, subst}
-use mathlib.Core.Bool.{Bool, true, false, not}
-use mathlib.Core.List.{List, [], ◌∷◌, ◌++◌, append_assoc}
-use Prim.Native.Nat.{ℕ, zero, suc, ◌+◌, ◌-◌, ◌≤◌}
+use mathlib.Core.Path.{◌≡◌, refl, sym, ap, ap₂, ◌∙◌}
+use mathlib.Core.Bool.{Bool, true, false}
+use mathlib.Core.List.{List, ◌++◌, append_assoc}
+use Prim.Native.Nat.{ℕ, ◌+◌, ◌-◌, ◌≤◌}
 use native.Mathlib.Omega.{arith}
 use lib.Dec.{eqb, ltb}
 use lib.ListN.{length, take, drop, length-append, length-drop}
 use lib.Seq.{paste, take_all, take_at, drop-append-le, length-take-le}
 use borrow.Rule.Slice.PartMut.{put_mid}
 use borrow.Author.Tests.{eq-eqb, ne_eqb, eqb-true, ltb-false, not-false}
-use Rattle.lists.specs.Tests.{pick, rising}
+use Rattle.lists.specs.Tests.{rising}
 use Rattle.lists.specs.Lists.{part, each}
 use Rattle.lists.proofs.Tests.{pick_true, pick_false}
 use Rattle.lists.proofs.Refusals.{lowest_clear}
@@ -23,7 +23,6 @@ use Rattle.line.specs.Settings.{Held}
 use Rattle.line.specs.Timing.{timing_words}
 use Rattle.line.specs.Header.{header_words}
 use Rattle.line.specs.Layout.{gap_at, sav_at, gap_words, gap_after, framed}
-use Rattle.line.specs.Check.{fits_length}
 use Rattle.line.proofs.SystemLaws.{Fit, fitting, length_most}
 use Rattle.line.proofs.GapLaws.{GapHolds, gap_length_lem, gap_long, gap_more}
 use Rattle.line.proofs.Headers.{header_length_lem}

@@ -1,7 +1,7 @@
 -- What an addition looks at, where neither 1 nor 2 holds. Only the promises of functions that the crate keeps to itself cite this; no public
 -- function's does.
 -- Assumes nothing.
-use Rattle.std.specs.Prelude.{ℕ, ◌+◌, ◌-◌, ◌≤◌, Bool, true, false, ◌&&◌, ◌||◌, not, List, [], ◌∷◌, ◌≡◌, leb, length, get_or}
+use Rattle.std.specs.Prelude.{ℕ, ◌+◌, ◌-◌, true, false, ◌&&◌, ◌||◌, not, List, [], ◌∷◌, ◌≡◌, leb, length, get_or}
 use Rattle.lists.specs.Tests.{pick, Refusal, when}
 use Rattle.line.specs.Systems.{system_of}
 use Rattle.line.specs.Fixed.{size_of}

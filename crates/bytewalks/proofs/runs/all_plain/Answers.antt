@@ -1,4 +1,4 @@
-use Rattle.std.proofs.Common.{ℕ, ◌<◌, ◌≤◌, length, ap, ◌∙◌, ⊎_elim, arith, rules}
+use Rattle.std.proofs.Common.{ℕ, ◌<◌, ◌≤◌, length, ap, ◌∙◌, arith, rules}
 use Rattle.lists.specs.Lists.{each}
 use Rattle.lists.proofs.Loops.{test_start, test_end}
 use Rattle.octets.specs.Bytes.{words_of}
@@ -32,6 +32,6 @@ returns c =
     let ws = words_of a.words.now in
     test_end (is_from c.if-mode-eq8.low) ws _ _ c.loop-i.invariant (omega (arith, c.loop-i-test.false, length_words a.words.now))
     ∙ elim c.if-mode-eq8.branch [
-        then-mode-eq8 w ↦ ap (λ (n : ℕ). each (is_from n) ws) w.low-is ∙ plain_eight a.mode ws w.if-mode-eq8.true
+      | then-mode-eq8 w ↦ ap (λ (n : ℕ). each (is_from n) ws) w.low-is ∙ plain_eight a.mode ws w.if-mode-eq8.true
       | else-mode-eq8 w ↦ ap (λ (n : ℕ). each (is_from n) ws) w.low-is ∙ plain_nine a.mode ws w.if-mode-eq8.false
-      ]
+    ]

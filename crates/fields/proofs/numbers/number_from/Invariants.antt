@@ -1,7 +1,5 @@
 -- `fields::numbers::number_from` meets its contract: x is spelled by the bytes from i on. Assumes nothing.
 use Rattle.fields.proofs.NumberLaws.{Spelling}
-use Rattle.fields.proofs.numbers.number_from.Reads as reads
-use Rattle.fields.proofs.numbers.number_from.Lts as lts
 use Rattle.fields.proofs.numbers.number_from.Given as goal
 
 abbrev pub invariant-loop-i : goal.invariant-loop-i

@@ -21,7 +21,7 @@ found : (x : After-is_fit) (b : Bool) →
     (x.is_fit.result && eqb g.room g.capacity) ≡ b → (fits_length g.st.system g.st.mode g.long && eqb g.room g.capacity) ≡ b
 found x b e = ap (λ (f : Bool). f && eqb x.args.room x.args.capacity) (sym x.is_fit.ensures) ∙ e
 
-fit : (x : Else-not-is_fit-room) → (by_found :  (b : Bool) → let g = x.args in (x.is_fit.result && eqb g.room g.capacity) ≡ b → (fits_length g.st.system g.st.mode g.long && eqb g.room g.capacity) ≡ b)
+fit : (x : Else-not-is_fit-room) → (by_found : (b : Bool) → let g = x.args in (x.is_fit.result && eqb g.room g.capacity) ≡ b → (fits_length g.st.system g.st.mode g.long && eqb g.room g.capacity) ≡ b)
     → let g = x.args in
     (fits_length g.st.system g.st.mode g.long && eqb g.room g.capacity) ≡ true
 fit x by_found = by_found true (x.if-not-is_fit-room.false)
