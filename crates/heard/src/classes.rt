@@ -1,5 +1,6 @@
 // The classes of numbers: whatever number a word is, by the table and by the forms.
 use crate::{out, steps};
+use std::io;
 use words::class::Class;
 use words::{class, forms};
 
@@ -46,20 +47,21 @@ fn digit_at(n: u64) -> u8 {
 }
 
 // The digits of the numbers from one to before another.
-fn put_digits(from: u64, to: u64) {
+fn put_digits(rt: &impl Print, from: u64, to: u64) -> io::Result<()> {
     let mut i = from;
     while i < to {
-        out::say(&[digit_at(i)]);
+        out::say(rt, &[digit_at(i)])?;
         i += 1;
     }
+    Ok(())
 }
 
 // `Kinds FROM`, row `kinds FROM DIGITS`: the classes of 256 numbers: 1 byte form, 2 other data form, 3 separator, 4 end code, 5 illegal, 6 the null word 100h.
-pub(crate) fn kinds(ns: &[u64]) {
+pub(crate) fn kinds(rt: &impl Print, ns: &[u64]) -> io::Result<()> {
     let n = steps::at(ns, 0) % 65536;
-    out::say(b"kinds");
-    out::put(n);
-    out::say(b" ");
-    put_digits(n, n + 256);
-    out::say(b"\n");
+    out::say(rt, b"kinds")?;
+    out::put(rt, n)?;
+    out::say(rt, b" ")?;
+    put_digits(rt, n, n + 256)?;
+    out::say(rt, b"\n")
 }

@@ -1,6 +1,7 @@
 // Plays the steps in the file stdin and prints rows, for harness/heard to compute again: what no call from C hands out, sums of words, headers and classes.
 // All other steps are played through the calls from C, by harness/steps.c.
 #![tactic(auto)]
+
 mod out; // out.rt: what a row is written with
 mod steps; // steps.rt: a step is read from the text
 mod made; // made.rt: words from a seed
@@ -9,18 +10,20 @@ mod heading; // heading.rt: the settings of a header
 mod shown; // shown.rt: rows of words and headers
 mod classes; // classes.rt: rows of classes
 
-use libc::STDIN_FILENO;
+use std::io;
 
-fn main() {
+fn main(rt: HostRuntime) -> io::Result<()> {
+    let mut input = rt.stdin();
     let mut ns = [0u64; 56];
     let mut hd = [0u64; 52];
     let mut room = [0u16; 2304];
     let mut more = true;
     let mut turns = u64::MAX;
     while turns > 0 && more {
-        let s = steps::read(STDIN_FILENO, &mut ns);
+        let s = steps::read(&mut input, &mut ns)?;
         more = s.more;
-        shown::show(s, &ns, &mut hd, &mut room);
+        shown::show(&rt, s, &ns, &mut hd, &mut room)?;
         turns -= 1;
     }
+    Ok(())
 }

@@ -1,5 +1,7 @@
 // A step is a line of text: a name, whose first letter counts, and up to 56 decimal numbers, each after one space.
 // A line that begins with # is a remark, and an empty line is nothing.
+use std::io;
+use std::io::{ErrorKind, Read};
 
 // What was read beside the numbers: whether the text goes on, the name's first letter (0: none yet), and how many spaces came.
 #[derive(Clone, Copy)]
@@ -68,8 +70,17 @@ fn fed(s: Step, b: u8, ns: &mut [u64]) -> Step {
     s
 }
 
+// Reads a byte: whether there was one more, or the text has ended.
+fn read_byte(input: &mut impl Read, one: &mut [u8; 1]) -> io::Result<bool> {
+    match input.read_exact(one) {
+        Ok(()) => Ok(true),
+        Err(e) if e.kind() == ErrorKind::UnexpectedEof => Ok(false),
+        Err(e) => Err(e),
+    }
+}
+
 // Reads a step. At the end of the text no more is to come.
-pub(crate) fn read(fd: i32, ns: &mut [u64]) -> Step {
+pub(crate) fn read(input: &mut impl Read, ns: &mut [u64]) -> io::Result<Step> {
     let mut one = [0u8; 1];
     let mut s = Step {
         more: true,
@@ -78,18 +89,18 @@ pub(crate) fn read(fd: i32, ns: &mut [u64]) -> Step {
     };
     let mut turns = u64::MAX;
     while turns > 0 {
-        if io::read_full(fd, &mut one) == 0 {
-            return Step {
+        if !read_byte(input, &mut one)? {
+            return Ok(Step {
                 more: false,
                 name: 0,
                 spaces: 0,
-            };
+            });
         }
         if one[0] == 10 {
-            return s;
+            return Ok(s);
         }
         s = fed(s, one[0], ns);
         turns -= 1;
     }
-    s
+    Ok(s)
 }

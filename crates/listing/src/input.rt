@@ -2,61 +2,59 @@
 // nothing ready, is made again.
 ghost use Rattle.std.specs.Prelude.{◌≤◌, length};
 
-use libc::STDIN_FILENO;
+use std::io::{Error, ErrorKind, Read};
 
-// What was read: so many bytes, whether more may come, and whether a read failed.
+// What was read: so many bytes, whether more may come, and why a read failed, where one did.
 #[derive(Clone, Copy)]
 pub struct Got {
     pub count: usize,
     pub more: bool,
-    pub failed: bool,
+    pub failed: Option<Error>,
 }
 
-// After a read that brought nothing. No call that waits until something is ready can be had here, so another process is let run first.
-fn after_error() -> Got
+// After a read that brought nothing. No call that waits until something is ready can be had here, and none that lets another process run
+// first, so the next read is made at once.
+fn after_error(error: Error) -> Got
     ensures { result.count ≤ 0 }
 {
-    let error = os::errno();
-    if error == libc::EINTR || error == libc::EAGAIN {
-        libc::sched_yield();
+    let kind = error.kind();
+    if kind == ErrorKind::Interrupted || kind == ErrorKind::WouldBlock {
         return Got {
             count: 0,
             more: true,
-            failed: false,
+            failed: None,
         };
     }
     Got {
         count: 0,
         more: false,
-        failed: true,
+        failed: Some(error),
     }
 }
 
 // One read.
-fn read_some(part: &mut [u8]) -> Got
+fn read_some(from: &mut impl Read, part: &mut [u8]) -> Got
     ensures { result.count ≤ length part.new }
 {
-    let got = libc::read(STDIN_FILENO, part);
-    if got < 0 {
-        return after_error();
-    }
-    let n = io::count(got, part);
-    Got {
-        count: n,
-        more: n > 0,
-        failed: false,
+    match from.read(part) {
+        Ok(n) => Got {
+            count: n,
+            more: n > 0,
+            failed: None,
+        },
+        Err(e) => after_error(e),
     }
 }
 
 // Reads until the line is whole, the input ends or a read fails. Nothing says how often a read has to be made again, so the loop counts
 // its turns down from a number that no run uses up.
-pub(crate) fn read_line(bytes: &mut [u8]) -> Got {
+pub(crate) fn read_line(from: &mut impl Read, bytes: &mut [u8]) -> Got {
     let mut done = 0usize;
     let mut more = true;
-    let mut failed = false;
+    let mut failed = None;
     let mut turns = u64::MAX;
     while turns > 0 && done < bytes.len() && more {
-        let now = read_some(&mut bytes[done..]);
+        let now = read_some(from, &mut bytes[done..]);
         done += now.count;
         more = now.more;
         failed = now.failed;

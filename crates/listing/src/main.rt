@@ -1,9 +1,10 @@
 // Lists the lines on standard input, of system 0 and 8-bit, two bytes a word, low byte first: a row for each event. Every row's
 // text is rows::row_of's. The rows of a line are a text in memory before they are written, because no contract can say what
-// io::write_all has written: list_line promises the text, and what is written is the text of list_line, line by line.
+// standard output was given: list_line promises the text, and what is written is the text of list_line, line by line.
 // With an argument, whatever it is, the rows of the packets in a line's gap follow the line's own.
-// A program has no status. Where a read or a write fails it says why on standard error, and ends; harness/program makes a status of that.
+// The status is always 0. Where a read or a write fails it says why on standard error, and ends; harness/program makes a status of that.
 #![tactic(auto)]
+
 mod gap; // gap.rt: rows of the packets in a line's gap
 mod input;
 
@@ -12,9 +13,11 @@ ghost use Rattle.rows.specs.Rows.{row_text};
 ghost use Rattle.listing.specs.Lines.{Between, Lists};
 
 use input::Got;
-use libc::STDOUT_FILENO;
 use reader::state::{Event, Reader};
 use reader::{read, state};
+use std::env::{Env, FillError};
+use std::io;
+use std::io::Read;
 
 // What goes from line to line: the reader's state, whether more lines may come, and whether packets are listed too.
 #[derive(Clone, Copy)]
@@ -81,21 +84,36 @@ fn list_line(st: Reader, line: &[u16], room: &mut [u16], text: &mut [u8]) -> Lef
     }
 }
 
-// Writes a text, and answers whether it was written.
-fn write_text(text: &[u8]) -> bool {
-    let is_written = io::write_all(STDOUT_FILENO, text);
-    if !is_written {
-        os::fail(b"listing: standard output");
+// Whether a write succeeded. Where it did not it is said why, and where that cannot be said either, nothing is.
+fn is_written(rt: &impl Eprint, done: io::Result<()>) -> bool {
+    match done {
+        Ok(()) => true,
+        Err(e) => {
+            let _ = eprintln!(rt; "listing: standard output: {e}");
+            false
+        }
     }
-    is_written
+}
+
+// Writes a text, and answers whether it was written.
+fn write_text(rt: &(impl Print + Eprint), text: &[u8]) -> bool {
+    is_written(rt, rt.write_all(text))
+}
+
+// Writes the rows of a line, and those of its packets where they are wanted, and answers whether all were written.
+fn write_rows(rt: &(impl Print + Eprint), text: &[u8], packets: bool, line: &[u16; 1716]) -> bool {
+    if !write_text(rt, text) {
+        return false;
+    }
+    is_written(rt, gap::list_gap(rt, packets, line))
 }
 
 // Where no whole line is left: a line that is cut is refused, and a read that failed is said.
-fn list_rest(got: Got, text: &mut [u8])
+fn list_rest(rt: &(impl Print + Eprint), got: Got, text: &mut [u8])
     requires { length text.old ≡ 69216 }
 {
-    if got.failed {
-        os::fail(b"listing: standard input");
+    if let Some(e) = got.failed {
+        let _ = eprintln!(rt; "listing: standard input: {e}");
         return;
     }
     if got.count > 0 {
@@ -104,22 +122,28 @@ fn list_rest(got: Got, text: &mut [u8])
             dropped: false,
         };
         let e = put_row(cut, 0, text);
-        write_text(&text[..e]);
+        write_text(rt, &text[..e]);
     }
 }
 
 // Reads a line and lists it. One that is not whole is the last, and so is one that could not be written. No line is begun where the next
 // one is read.
-fn next_line(kept: Kept, room: &mut [u16; 16384], text: &mut [u8]) -> Kept
+fn next_line(
+    rt: &(impl Print + Eprint),
+    from: &mut impl Read,
+    kept: Kept,
+    room: &mut [u16; 16384],
+    text: &mut [u8],
+) -> Kept
     requires { length text.old ≡ 69216 }
     ensures { Between kept.state → Between result.state }
 {
     let st = kept.state;
     let packets = kept.packets;
     let mut bytes = [0u8; 3432];
-    let got = input::read_line(&mut bytes);
+    let got = input::read_line(from, &mut bytes);
     if got.count < 3432 {
-        list_rest(got, text);
+        list_rest(rt, got, text);
         return Kept {
             state: st,
             more: false,
@@ -131,26 +155,35 @@ fn next_line(kept: Kept, room: &mut [u16; 16384], text: &mut [u8]) -> Kept
     let left = list_line(st, &line, room, text);
     let after = left.state;
     let e = left.length;
-    let is_written = write_text(&text[..e]);
-    gap::list_gap(packets, &line);
+    let more = write_rows(rt, &text[..e], packets, &line);
     Kept {
         state: after,
-        more: is_written,
+        more: more,
         packets: packets,
     }
 }
 
-fn main() {
+// Whether there is a word behind the program's own name.
+fn has_word(rt: &impl Env) -> bool {
+    let mut word = [0u8; 8];
+    match rt.arg(1, &mut word) {
+        Err(FillError::NotPresent) => false,
+        _ => true,
+    }
+}
+
+fn main(rt: HostRuntime) {
+    let mut from = rt.stdin();
     let mut room = [0u16; 16384];
     let mut text = [0u8; 69216];
     let mut kept = Kept {
         state: state::fresh_reader(0, 8),
         more: true,
-        packets: os::arg_count() > 1,
+        packets: has_word(&rt),
     };
     let mut turns = u64::MAX;
     while turns > 0 && kept.more {
-        kept = next_line(kept, &mut room, &mut text);
+        kept = next_line(&rt, &mut from, kept, &mut room, &mut text);
         turns -= 1;
     }
 }

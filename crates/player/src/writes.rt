@@ -1,9 +1,10 @@
 // The writer's calls, and their rows: a name, ANSWER and REGISTER. ANSWER is 0 for done or finished, 100 for unfinished, or the number of a refusal; REGISTER is
 // the CRC register after the words that were lent, as the call left them.
 use crate::steps;
-use libc::STDOUT_FILENO;
 use line::settings::Settings;
 use lines::{closing, opening};
+use std::io;
+use std::io::Read;
 use sums::crc;
 use writer::state::{Answer, Laid, Writer};
 use writer::{adding, state};
@@ -23,12 +24,10 @@ fn number_laid(a: Laid) -> u64 {
     }
 }
 
-fn put_row(name: &[u8], answer: u64, line: &[u16]) {
-    io::write_all(STDOUT_FILENO, name);
-    io::print_decimal(STDOUT_FILENO, answer);
-    io::write_all(STDOUT_FILENO, b" ");
-    io::print_decimal(STDOUT_FILENO, crc::crc_of(crc::CRC_START, line) as u64);
-    io::write_all(STDOUT_FILENO, b"\n");
+fn put_row(rt: &impl Print, name: &[u8], answer: u64, line: &[u16]) -> io::Result<()> {
+    let register = crc::crc_of(crc::CRC_START, line);
+    rt.write_all(name)?;
+    println!(rt; "{answer} {register}")
 }
 
 // Code, AAI, block type and flag of a step; both addresses and the reserved words are 0.
@@ -45,34 +44,41 @@ fn settings_of(step: &[u16; 8]) -> Settings {
 }
 
 // 2, the line's length, its number, F + 2 V, and the settings: row `opened`.
-fn open_line(step: &[u16; 8], w: Writer, line: &mut [u16]) -> Writer {
+fn open_line(rt: &impl Print, step: &[u16; 8], w: Writer, line: &mut [u16]) -> io::Result<Writer> {
     let f = step[3] % 2 == 1;
     let v = step[3] / 2 % 2 == 1;
     let r = opening::open_line(w, f, v, step[2], settings_of(step), line);
     let answer = r.answer;
     let next = r.state;
-    put_row(b"opened ", number_of(answer), line);
-    next
+    put_row(rt, b"opened ", number_of(answer), line)?;
+    Ok(next)
 }
 
 // 3, the line's length, the type, how many values; then the values: row `added`.
-fn add_block(step: &[u16; 8], w: Writer, line: &mut [u16], values: &mut [u16]) -> Writer {
+fn add_block(
+    rt: &impl Print,
+    input: &mut impl Read,
+    step: &[u16; 8],
+    w: Writer,
+    line: &mut [u16],
+    values: &mut [u16],
+) -> io::Result<Writer> {
     let n = steps::within(steps::wide(step[3]), values.len());
-    steps::read(&mut values[0..n]);
+    steps::read(input, &mut values[0..n])?;
     let r = adding::add_block(w, step[2], &values[0..n], line);
     let answer = r.answer;
     let next = r.state;
-    put_row(b"added ", number_laid(answer), line);
-    next
+    put_row(rt, b"added ", number_laid(answer), line)?;
+    Ok(next)
 }
 
 // 4 and the line's length: row `closed`.
-fn close_line(w: Writer, line: &mut [u16]) -> Writer {
+fn close_line(rt: &impl Print, w: Writer, line: &mut [u16]) -> io::Result<Writer> {
     let r = closing::close_line(w, line);
     let answer = r.answer;
     let next = r.state;
-    put_row(b"closed ", number_of(answer), line);
-    next
+    put_row(rt, b"closed ", number_of(answer), line)?;
+    Ok(next)
 }
 
 // 6, a place in the line and a word.
@@ -84,18 +90,25 @@ fn put_word(at: u16, word: u16, line: &mut [u16]) {
 }
 
 // What a step does to the writer and to the line.
-pub(crate) fn write(step: &[u16; 8], w: Writer, line: &mut [u16], values: &mut [u16]) -> Writer {
+pub(crate) fn write(
+    rt: &impl Print,
+    input: &mut impl Read,
+    step: &[u16; 8],
+    w: Writer,
+    line: &mut [u16],
+    values: &mut [u16],
+) -> io::Result<Writer> {
     let n = steps::within(steps::wide(step[1]), line.len());
     let name = step[0];
     match name {
-        1 => state::fresh_writer((step[1] % 256) as u8, (step[2] % 256) as u8),
-        2 => open_line(step, w, &mut line[0..n]),
-        3 => add_block(step, w, &mut line[0..n], values),
-        4 => close_line(w, &mut line[0..n]),
+        1 => Ok(state::fresh_writer((step[1] % 256) as u8, (step[2] % 256) as u8)),
+        2 => open_line(rt, step, w, &mut line[0..n]),
+        3 => add_block(rt, input, step, w, &mut line[0..n], values),
+        4 => close_line(rt, w, &mut line[0..n]),
         6 => {
             put_word(step[1], step[2], line);
-            w
+            Ok(w)
         }
-        _ => w,
+        _ => Ok(w),
     }
 }

@@ -1,14 +1,14 @@
 // Writes a small transmission on standard output, of system 0 and 8-bit, two bytes a word, low byte first, as the listing program
 // reads it. Words of the command line ask for damage: `lose LINE COUNT` or `spoil LINE`. The writer lays every word of a line; here
-// data is only moved. A program has no status: why it ends early stands on standard error, and harness/program makes a status of that.
+// data is only moved. The status is always 0: why it ends early stands on standard error, and harness/program makes a status of that.
 #![tactic(auto)]
+
 mod damage;
 mod plan;
 
 ghost use Rattle.std.specs.Prelude.{◌≤◌};
 
 use damage::Damage;
-use libc::{STDERR_FILENO, STDOUT_FILENO};
 use lines::{closing, opening};
 use writer::adding::Addition;
 use writer::state::{Laid, Writer};
@@ -91,26 +91,28 @@ fn fill_line(kept: Kept, fixed: bool, line: &mut [u16]) -> Kept {
     add_blocks(kept, line)
 }
 
-// The line as bytes: whether it was written.
-fn write_line(line: &[u16; 1716]) -> bool {
+// The line as bytes: whether it was written. Where it was not it is said why, and where that cannot be said either, nothing is.
+fn write_line(rt: &(impl Print + Eprint), line: &[u16; 1716]) -> bool {
     let mut bytes = [0u8; 3432];
     octets::bytes_of(line, &mut bytes);
-    let is_written = io::write_all(STDOUT_FILENO, &bytes);
-    if !is_written {
-        os::fail(b"sending: standard output");
+    match rt.write_all(&bytes) {
+        Ok(()) => true,
+        Err(e) => {
+            let _ = eprintln!(rt; "sending: standard output: {e}");
+            false
+        }
     }
-    is_written
 }
 
 // What is left of the line after the damage is sent: whether more may be.
-fn send_line(d: Damage, number: u16, line: &mut [u16; 1716]) -> bool {
+fn send_line(rt: &(impl Print + Eprint), d: Damage, number: u16, line: &mut [u16; 1716]) -> bool {
     if damage::is_lost(d, number) {
         return true;
     }
     if d.spoiled == number {
         damage::spoil_word(line);
     }
-    write_line(line)
+    write_line(rt, line)
 }
 
 // A line opened, filled and closed.
@@ -136,7 +138,7 @@ fn next_line(kept: Kept, turn: u16, line: &mut [u16; 1716]) -> Kept {
 }
 
 // All lines, to the first that cannot be written.
-fn send_all(d: Damage) {
+fn send_all(rt: &(impl Print + Eprint), d: Damage) {
     let mut kept = Kept {
         writer: state::fresh_writer(0, 8),
         block: 0,
@@ -147,19 +149,18 @@ fn send_all(d: Damage) {
     let mut turn = 0u16;
     while turn < plan::LINES && more {
         kept = next_line(kept, turn, &mut line);
-        more = send_line(d, plan::number_of(turn), &mut line);
+        more = send_line(rt, d, plan::number_of(turn), &mut line);
         turn += 1;
     }
 }
 
-fn main() {
-    let d = damage::asked();
+fn main(rt: HostRuntime) {
+    let d = damage::asked(&rt);
     if d.good {
-        send_all(d);
+        send_all(&rt, d);
         return;
     }
-    io::write_all(
-        STDERR_FILENO,
-        b"sending: the words are none, lose LINE COUNT or spoil LINE; LINE is 520 to 525 or 1 to 6, and COUNT lines are sent from it on\n",
+    let _ = eprintln!(rt;
+        "sending: the words are none, lose LINE COUNT or spoil LINE; LINE is 520 to 525 or 1 to 6, and COUNT lines are sent from it on"
     );
 }
