@@ -2,6 +2,7 @@
 // No call converts a whole line in and out: what a call lays does not depend on the line's words, so it is laid into a line of zeros, and only what was
 // laid goes back as bytes.
 #![tactic(auto)]
+
 pub mod opening; // opening.rt: a line opened
 pub mod adding; // adding.rt: a block added
 pub mod batch; // batch.rt: many blocks in one call
