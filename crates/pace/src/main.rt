@@ -1,12 +1,13 @@
 // Writes lines of system 0 in memory, for measuring: `pace JOB MODE ROUNDS`. A round is eight lines. Prints the CRC register after all words of the last eight
 // lines; bench/twin.c does the same jobs in C and prints the same. With no words each job is done twice, in both modes.
 #![tactic(auto)]
+
 mod jobs; // jobs.rt: what the jobs write
 mod writes; // writes.rt: lines written
 mod asked; // asked.rt: the words of the command line
 
 use asked::Asked;
-use libc::STDOUT_FILENO;
+use std::io;
 use sums::crc;
 use writer::state;
 
@@ -18,26 +19,26 @@ fn write_all(a: Asked, batch: &mut [u16]) {
 }
 
 // A job done, and its row.
-fn run(a: Asked, batch: &mut [u16; 13728]) {
+fn run(rt: &impl Print, a: Asked, batch: &mut [u16; 13728]) -> io::Result<()> {
     write_all(a, batch);
-    io::print_decimal(STDOUT_FILENO, crc::crc_of(crc::CRC_START, batch) as u64);
-    io::write_all(STDOUT_FILENO, b"\n");
+    let crc = crc::crc_of(crc::CRC_START, batch);
+    println!(rt; "{crc}")
 }
 
 // Every job, twice.
-fn run_all(batch: &mut [u16; 13728]) {
+fn run_all(rt: &impl Print, batch: &mut [u16; 13728]) -> io::Result<()> {
     let mut k = 0u8;
     while k < 24 {
-        run(asked::nth(k), batch);
+        run(rt, asked::nth(k), batch)?;
         k += 1;
     }
+    Ok(())
 }
 
-fn main() {
+fn main(rt: HostRuntime) -> io::Result<()> {
     let mut batch = [0u16; 13728];
-    if os::arg_count() == 4 {
-        run(asked::by_words(), &mut batch);
-        return;
+    if asked::has_three(&rt) {
+        return run(&rt, asked::by_words(&rt), &mut batch);
     }
-    run_all(&mut batch);
+    run_all(&rt, &mut batch)
 }
