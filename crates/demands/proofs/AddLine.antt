@@ -16,14 +16,14 @@ use Rattle.writer.specs.declared.state.Rest.TheVariants.{NoBlock, Part}
 use Rattle.writer.specs.declared.state.Laid.TheVariants.{Finished, Unfinished}
 use Rattle.writer.specs.State.{most, is_part, laid_of}
 use Rattle.writer.specs.Answers.{Added}
-use Rattle.writer.specs.Adding.{add_fault, fitting, adding}
+use Rattle.writer.specs.Adding.{add_fault, adding}
 use Rattle.writer.specs.Block.{fixed_words}
 use Rattle.writer.specs.Filling.{joined, piece_of}
 use Rattle.writer.proofs.Keeps.{add_leaves}
 use Rattle.demands.specs.Sending.{Block, Piece, Complete, Desk, values_now, piece_now, complete_now, added_by}
 use Rattle.demands.specs.Hearing.{Heard, is_block}
 use Rattle.demands.specs.Damage.{all_on, survivors}
-use Rattle.demands.proofs.Run.{Now, now, run_to, run_out, place_out, places_to}
+use Rattle.demands.proofs.Run.{Now, run_to, run_out, place_out, places_to}
 use Rattle.demands.proofs.RunLaws.{run_to_append, run_out_append, run_room}
 use Rattle.demands.proofs.BlockRun.{Shaped}
 use Rattle.demands.proofs.PlaceRun.{place_given, place_room_lem, places_out_append, places_to_append}

@@ -1,18 +1,14 @@
 -- READING UNDER AN ALLOWANCE, proved: the statement is specs/Allowed.antt.
 -- Assumes nothing.
 use Prim.Native.Nat.{ℕ}
-use mathlib.Core.Bool.{Bool, false}
-use mathlib.Core.List.{List}
-use mathlib.Core.Path.{◌≡◌, refl, sym, ap, ◌∙◌, subst}
+use mathlib.Core.Bool.{false}
+use mathlib.Core.Path.{◌≡◌, refl, sym, ap, subst}
 use lib.ListN.{length}
-use native.Mathlib.Omega.{arith}
 use Prim.Native.Nat.{◌+◌, ◌≤◌}
 use Rattle.reader.specs.declared.state.Reader.{Reader}
 use Rattle.reader.specs.declared.state.Event.TheVariants.{Refused}
-use Rattle.reader.specs.declared.within.Report.TheVariants.{Told}
 use Rattle.reader.specs.State.{impossible}
 use Rattle.reader.specs.Reading.{Reply}
-use Rattle.reader.specs.Within.{within}
 use Rattle.reader.proofs.AtCapacity.{fresh_possible, read_possible, never_2, payload_ends}
 use Rattle.demands.specs.Allowed.{Reached, is_fresh, reads, slices, Allowed}
 use Rattle.demands.proofs.Demand2Holds.{demand_2}

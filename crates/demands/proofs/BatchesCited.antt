@@ -2,7 +2,7 @@
 -- DemandCited.antt; `heard` is cited in DemandSamples.antt.
 -- Assumes nothing.
 use Prim.Native.Nat.{ℕ}
-use mathlib.Core.List.{List, [], ◌∷◌, ◌++◌, map}
+use mathlib.Core.List.{List, [], ◌∷◌, map}
 use mathlib.Core.Path.{◌≡◌}
 use native.Mathlib.Omega.{arith}
 use lib.ListN.{length}
@@ -11,7 +11,7 @@ use Rattle.reader.specs.State.{fresh}
 use Rattle.demands.specs.All.{All}
 use Rattle.demands.specs.Sending.{Sent, Desk, sent_fresh, blocks_of}
 use Rattle.demands.specs.Hearing.{Heard, Reads, handed_out}
-use Rattle.demands.specs.Damage.{Fate, kept, removed, kept_at, survivors}
+use Rattle.demands.specs.Damage.{kept, removed, kept_at, survivors}
 use Rattle.demands.specs.Running.{desk_after}
 use Rattle.demands.specs.Demand2.{IsLine}
 use Rattle.demands.specs.Demand3.{Transmission}

@@ -1,13 +1,13 @@
 -- Many blocks in one call, proved: the statement is specs/Batches.antt. Of a list: by its entries, one after another, beside the desk. Of a course: the
 -- state and the words of the line are the desk's.
 -- Assumes nothing.
-use Prim.Native.Nat.{ℕ, suc, ◌+◌, ◌<◌, ◌≤◌}
+use Prim.Native.Nat.{ℕ, suc, ◌+◌}
 use mathlib.Core.Bool.{Bool, true, false}
 use mathlib.Core.List.{List, [], ◌∷◌, ◌++◌, map, map-append, append-nil, append_assoc}
 use mathlib.Core.Path.{◌≡◌, refl, sym, ap, ap₂, ◌∙◌, subst}
 use native.Mathlib.Omega.{arith}
 use lib.Dec.{eqb}
-use lib.ListN.{length, take, drop, length-append}
+use lib.ListN.{length, length-append}
 use lib.Seq.{take-append_seam, drop-append_seam}
 use borrow.Author.Tests.{le-leb, lt-leb}
 use Rattle.lists.specs.Tests.{pick}
@@ -18,16 +18,16 @@ use Rattle.writer.specs.declared.state.Answer.TheVariants.{Refused, Done}
 use Rattle.writer.specs.declared.state.Laid.{Laid}
 use Rattle.writer.specs.declared.state.Laid.TheVariants.{Refused as NotLaid, Finished, Unfinished}
 use Rattle.writer.specs.declared.batch.Stop.TheVariants.{Refused as Stopped}
-use Rattle.writer.specs.Answers.{Left, Added}
+use Rattle.writer.specs.Answers.{Added}
 use Rattle.writer.specs.Opening.{opening}
 use Rattle.writer.specs.Adding.{adding}
 use Rattle.writer.specs.Packing.{packing}
 use Rattle.writer.specs.Closing.{closing}
-use Rattle.writer.specs.Batch.{Entry, whole, broken, entries_of, Batched, batched, behind, lay_all, batch_fault, batching}
+use Rattle.writer.specs.Batch.{Entry, whole, broken, entries_of, batched, behind, lay_all, batch_fault, batching}
 use Rattle.writer.proofs.BatchLaws.{entries_none, entries_one, entries_more}
 use Rattle.demands.specs.Sending.{Call, opens, adds, packs, closes, Block, Sent, Desk, start, opened_by, added_by, packs_by, closed_by as desk_closed, sends_by, after, sends, sent_by, sent_fresh}
 use Rattle.demands.specs.Damage.{Fate, kept, removed, replaced, remain}
-use Rattle.demands.specs.Hearing.{Heard, Reads}
+use Rattle.demands.specs.Hearing.{Reads}
 use Rattle.demands.specs.Running.{desk_after}
 use Rattle.demands.specs.Batches.{list_words, entry_of, Stump, one_word, short_of, onward, singly, batch_calls, one_if, finished_on, Leaves, Mixed, single, many, Now, now, line_by, done_by, closed_by, closes_by, lines_by, spelled_by, spelled, lines_fresh, spelled_fresh, remaining, Batches}
 use Rattle.reader.specs.State as reader

@@ -7,11 +7,10 @@ use mathlib.Core.Logic.{◌⊎◌, inl, inr, ⊎_elim}
 use mathlib.Core.List.{List, [], ◌∷◌, ◌++◌, map}
 use mathlib.Core.Path.{◌≡◌, refl, sym, ap, ap₂, ◌∙◌, subst}
 use native.Mathlib.Omega.{arith}
-use lib.Dec.{leb}
 use lib.IntN.{ℤ, pos, nat_abs}
 use lib.ListN.{length, get_or}
 use borrow.Author.Tests.{le-leb, lt-leb}
-use Rattle.lists.specs.Tests.{pick, or_next, Refusal, lowest_of, rising, holds_at}
+use Rattle.lists.specs.Tests.{pick, or_next, Refusal, lowest_of, rising}
 use Rattle.lists.proofs.Tests.{true_false, lt_or_le}
 use Rattle.lists.proofs.Refusals.{Answers, answers, lowest_append}
 use Rattle.line.specs.declared.settings.Settings.{Settings}
@@ -45,7 +44,7 @@ use Rattle.reader.specs.declared.state.Reader.{Reader}
 use Rattle.reader.specs.declared.state.Event.TheVariants.{Refused}
 use Rattle.reader.specs.State.{capacity}
 use Rattle.reader.specs.Events.{yes_no, event_numbers}
-use Rattle.reader.specs.Reading.{Reply, reply, refused, begun, told_by, walk_from, read_faults_in, read_fault_in, read_fault, read_from, reading}
+use Rattle.reader.specs.Reading.{Reply, reply, refused, begun, told_by, walk_from, read_faults_in, read_fault_in, read_fault, reading}
 use Rattle.reader.proofs.Ready.{read_rising}
 use Rattle.reader.proofs.ReadLaws.{read_refused}
 use Rattle.reader.proofs.AtCapacity.{ready, by_place, accepts, refuses}

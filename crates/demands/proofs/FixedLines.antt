@@ -1,9 +1,9 @@
 -- A fixed line has as many blocks as places filled, so as many blocks as there are places stand on one line.
 -- Assumes nothing.
-use Prim.Native.Nat.{ℕ, ◌+◌, ◌*◌, ◌/◌, ◌≤◌}
+use Prim.Native.Nat.{ℕ, ◌*◌, ◌/◌, ◌≤◌}
 use mathlib.Core.Bool.{true, false}
 use mathlib.Core.List.{List, [], ◌∷◌, ◌++◌, map}
-use mathlib.Core.Path.{◌≡◌, refl, sym, ap, ◌∙◌, subst}
+use mathlib.Core.Path.{◌≡◌, refl, sym, ap, ◌∙◌}
 use native.Mathlib.Nat.{mul-div_cancel}
 use native.Mathlib.Omega.{arith}
 use lib.ListN.{length, get_or, length-append, length-map}
@@ -20,7 +20,7 @@ use Rattle.writer.specs.Filling.{joined}
 use Rattle.writer.proofs.Keeps.{close_clear, close_leaves}
 use Rattle.writer.proofs.Refusals.{can_add, can_close}
 use Rattle.demands.specs.All.{All}
-use Rattle.demands.specs.Sending.{Call, Block, Complete, Sent, Desk, start, piece_now, complete_now, sent_by, sent_fresh, blocks_of}
+use Rattle.demands.specs.Sending.{Call, Block, Complete, Sent, Desk, start, piece_now, complete_now, sent_fresh, blocks_of}
 use Rattle.demands.specs.Writable.{Packed}
 use Rattle.demands.proofs.DeskOk.{DeskOk}
 use Rattle.demands.proofs.DeskAdds.{adds_say}

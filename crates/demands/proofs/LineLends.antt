@@ -5,11 +5,11 @@ use mathlib.Core.Path.{◌≡◌, refl, sym, ap, ap₂, ◌∙◌, subst}
 use mathlib.Core.Bool.{Bool, true, false}
 use mathlib.Core.List.{List, [], ◌∷◌, ◌++◌}
 use Prim.Native.Nat.{ℕ, zero, suc, ◌+◌, ◌-◌, ◌*◌, ◌/◌, ◌≤◌}
-use native.Mathlib.Nat.{zero-mul, suc-mul, add-zero, zero-div, add-mul-div_right}
+use native.Mathlib.Nat.{suc-mul, add-zero, zero-div, add-mul-div_right}
 use native.Mathlib.Omega.{arith}
 use lib.Dec.{eqb, eqb-suc-zero}
 use lib.ListN.{length, take, drop, length-drop}
-use lib.Seq.{length-take-le, drop-length, drop-drop}
+use lib.Seq.{length-take-le, drop-length}
 use Rattle.lists.specs.Tests.{pick}
 use Rattle.lists.proofs.Tests.{true_false, pick_true, pick_false}
 use Rattle.line.specs.declared.settings.Settings.{Settings}

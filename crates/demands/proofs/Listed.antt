@@ -1,20 +1,19 @@
 -- What is listed of a sent line is what was laid in its gap; and what is listed of any accepted line is the first words of its gap.
 -- Assumes nothing.
-use mathlib.Core.Path.{◌≡◌, refl, sym, ap, ◌∙◌}
+use mathlib.Core.Path.{◌≡◌, sym, ap, ◌∙◌}
 use mathlib.Core.Bool.{true}
-use mathlib.Core.List.{List, [], ◌∷◌, ◌++◌}
+use mathlib.Core.List.{List, [], ◌++◌}
 use Prim.Native.Nat.{ℕ, ◌+◌, ◌-◌}
 use lib.ListN.{length}
 use Rattle.line.specs.Systems.{system_of}
-use Rattle.line.specs.Layout.{gap_at, sav_at, end_words, area_length, line_words}
+use Rattle.line.specs.Layout.{gap_at, sav_at, end_words, line_words}
 use Rattle.line.specs.declared.check.Checked.{Checked}
 use Rattle.line.specs.Check.{line_fault}
 use Rattle.packets.specs.Packet.{packed}
 use Rattle.packets.specs.Gap.{Found, list_in}
-use Rattle.packets.specs.Listing.{gap_length, gap_of, listed_of, listing}
+use Rattle.packets.specs.Listing.{gap_length, gap_of, listed_of}
 use Rattle.packets.proofs.ListLaws.{list_back, list_there, filler_none}
 use Rattle.packets.proofs.ListingLaws.{checked_fault, list_done}
-use Rattle.writer.specs.declared.state.Answer.TheVariants.{Done}
 use Rattle.writer.specs.Closing.{closing}
 use Rattle.writer.specs.Filling.{area_from}
 use Rattle.writer.proofs.Packs.{framed_gap}

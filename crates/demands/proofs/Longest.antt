@@ -1,49 +1,43 @@
 -- A line that takes P + 2 calls: a reader that awaits a type behind line 1 is lent line 2, with the same settings and an area of P times 309h. It is begun, the open
 -- phase is kept, each word drops what the one before began, and then comes the end. Shown for every P.
 -- Assumes nothing.
-use Prim.Native.Nat.{ℕ, zero, suc, ◌+◌, ◌-◌, ◌≤◌, ◌<◌}
+use Prim.Native.Nat.{ℕ, zero, suc, ◌+◌, ◌-◌, ◌≤◌}
 use mathlib.Core.Bool.{Bool, true, false, ◌&&◌, ◌||◌}
-use mathlib.Core.List.{List, [], ◌∷◌}
+use mathlib.Core.List.{List, []}
 use mathlib.Core.Path.{◌≡◌, refl, sym, ap, ap₂, ◌∙◌, subst}
-use native.Mathlib.Nat.{add-zero}
 use native.Mathlib.Omega.{arith}
 use lib.Dec.{eqb, lit<, lit≤}
 use borrow.Author.Tests.{eqb-true, ltb-true, eq-eqb}
-use lib.ListN.{length, take, drop, replicate, length-replicate}
+use lib.ListN.{length, drop, replicate, length-replicate}
 use Rattle.lists.specs.Tests.{pick}
-use Rattle.lists.specs.Lists.{part, each}
-use Rattle.lists.proofs.Tests.{pick_true}
 use Rattle.lists.proofs.Lists.{drop_filler}
 use Rattle.words.specs.Forms.{is_byte, is_data}
 use Rattle.words.specs.Class.{class_of}
-use Rattle.words.specs.Modes.{is_mode, value_of}
+use Rattle.words.specs.Modes.{is_mode}
 use Rattle.line.specs.declared.settings.Settings.{Settings}
 use Rattle.line.specs.declared.check.Checked.{Checked}
 use Rattle.line.specs.Systems.{system_of, is_system}
 use Rattle.line.specs.Fixed.{block_refused}
 use Rattle.line.specs.Settings.{Held, settings_faults, settings_fault, same_settings}
-use Rattle.line.specs.Layout.{payload_at, area_length, line_words, area_of}
+use Rattle.line.specs.Layout.{area_length, line_words, area_of}
 use Rattle.line.specs.Check.{legal, fits_length, line_fault, checked_from, checked_of}
-use Rattle.line.proofs.SystemLaws.{sound}
-use Rattle.line.proofs.Lines.{Buildable, Accepted, accepted}
+use Rattle.line.proofs.Lines.{Accepted, accepted}
 use Rattle.course.specs.declared.Last.TheVariants.{Number}
 use Rattle.course.specs.declared.Place.TheVariants.{Shut, At}
 use Rattle.course.specs.Course.{next_number, blocks_end}
-use Rattle.machine.specs.declared.phase.Phase.{Phase}
 use Rattle.machine.specs.declared.phase.Phase.TheVariants.{Idle, Kind}
-use Rattle.machine.specs.declared.step.Met.TheVariants.{Lost}
 use Rattle.machine.specs.Machine.{again, step_of}
-use Rattle.machine.specs.Walk.{Walk, walked_to, stored, walk_of}
+use Rattle.machine.specs.Walk.{stored, walk_of}
 use Rattle.machine.proofs.WalkLaws.{word_stops}
 use Rattle.writer.proofs.Legal.{each_filler}
 use Rattle.reader.specs.declared.state.Reader.{Reader}
 use Rattle.reader.specs.declared.state.Event.TheVariants.{Drop}
 use Rattle.reader.specs.State.{capacity, impossible_in, impossible}
 use Rattle.reader.specs.Jump.{folded}
-use Rattle.reader.specs.Reading.{Reply, reply, becomes, goes_on, begun, starts, words_from, walk_from, told_by, goes_from, read_fault, reading}
+use Rattle.reader.specs.Reading.{Reply, reply, becomes, goes_on, begun, starts, words_from, walk_from, goes_from, read_fault, reading}
 use Rattle.reader.specs.Lending.{is_last, ends_within}
 use Rattle.reader.proofs.ReadLaws.{words_next}
-use Rattle.reader.proofs.AtCapacity.{Ready, ready, unfaulted, by_place, read_possible, call_moves, payload_ends}
+use Rattle.reader.proofs.AtCapacity.{ready, unfaulted, by_place, read_possible, call_moves, payload_ends}
 use Rattle.demands.specs.Allowed.{Longest}
 use Rattle.demands.proofs.LineLends.{words_first}
 

@@ -11,7 +11,7 @@ use Rattle.words.specs.Crc.{crc_start, crc_of}
 use Rattle.words.proofs.CrcLaws.{crc_none}
 use Rattle.course.specs.declared.Place.{Place}
 use Rattle.course.specs.declared.Place.TheVariants.{Shut, At}
-use Rattle.course.specs.Course.{is_at, place_of}
+use Rattle.course.specs.Course.{is_at}
 use Rattle.writer.specs.declared.state.Writer.{Writer}
 use Rattle.writer.specs.Answers.{Left, Added}
 use Rattle.packets.specs.Packet.{packed}

@@ -2,7 +2,7 @@
 -- Assumes nothing.
 use Prim.Native.Nat.{ℕ, zero, suc, ◌+◌, ◌-◌, ◌*◌, ◌/◌, ◌≤◌, ◌<◌}
 use mathlib.Core.Bool.{Bool, true, false}
-use mathlib.Core.List.{List, [], ◌∷◌}
+use mathlib.Core.List.{List}
 use mathlib.Core.Logic.{⊎_elim}
 use mathlib.Core.Path.{◌≡◌, refl, sym, ap, ap₂, ◌∙◌, subst}
 use native.Mathlib.Nat.{zero-div, add-mul-div_right, le-div_iff_mul-le, div-mul-le_self, mul-le-mul_left}
@@ -16,21 +16,21 @@ use Rattle.line.specs.Systems.{system_of}
 use Rattle.line.specs.Settings.{settings_fault}
 use Rattle.line.specs.Fixed.{is_variable, places_of, size_of}
 use Rattle.line.specs.Layout.{area_length}
-use Rattle.line.specs.Check.{number_of, settings_of, fits, line_fault}
+use Rattle.line.specs.Check.{settings_of, fits, line_fault}
 use Rattle.course.specs.declared.Place.{Place}
 use Rattle.course.specs.declared.Place.TheVariants.{Shut, At}
-use Rattle.course.specs.Course.{is_at, place_of, blocks_end}
+use Rattle.course.specs.Course.{place_of, blocks_end}
 use Rattle.course.proofs.CourseLaws.{at_place, start_placed, grid_count}
 use Rattle.reader.specs.declared.state.Reader.{Reader}
 use Rattle.reader.specs.declared.state.Event.{Event}
-use Rattle.reader.specs.declared.state.Event.TheVariants.{Refused, Begun, Block, Drop, End}
+use Rattle.reader.specs.declared.state.Event.TheVariants.{Refused, End}
 use Rattle.reader.specs.declared.state.Told.{Told as Tale}
 use Rattle.reader.specs.declared.within.Report.{Report}
 use Rattle.reader.specs.declared.within.Report.TheVariants.{Paused, Told}
 use Rattle.reader.specs.State.{capacity, impossible}
-use Rattle.reader.specs.Reading.{Reply, reply, begun, starts, read_fault, read_from, reading}
+use Rattle.reader.specs.Reading.{Reply, reply, read_fault, reading}
 use Rattle.reader.specs.Lending.{is_last}
-use Rattle.reader.specs.Within.{Sliced, sliced, paused_at, tells, unit_of, within_from, within}
+use Rattle.reader.specs.Within.{Sliced, sliced, paused_at, tells, unit_of, within}
 use Rattle.reader.proofs.ReadLaws.{read_refused}
 use Rattle.reader.proofs.Ready.{at_q}
 use Rattle.reader.proofs.Ends.{end_in, Ended, Further, Moves, in_area, Starts, begun_starts}

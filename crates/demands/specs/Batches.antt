@@ -1,7 +1,7 @@
 -- MANY BLOCKS IN ONE CALL (02, Item 9). A call with a list of blocks leaves the line and the state that the same blocks leave, added one by one. So a
 -- course with such calls is a course of single calls, and demands 2 and 3 hold of it unchanged.
 -- Assumes nothing.
-use Rattle.std.specs.Prelude.{ℕ, ◌+◌, ◌<◌, Bool, List, [], ◌∷◌, ◌++◌, map, ◌≡◌, eqb, length}
+use Rattle.std.specs.Prelude.{ℕ, ◌+◌, ◌<◌, List, [], ◌∷◌, ◌++◌, map, ◌≡◌, eqb, length}
 use Rattle.lists.specs.Tests.{pick}
 use Rattle.line.specs.Systems.{system_of}
 use Rattle.course.specs.declared.Last.TheVariants.{Unknown}

@@ -10,13 +10,7 @@ pub fn sdti_check(system: u8, mode: u8, line: &[u8], header: &mut [u8]) -> u32
     looking::check_line(system, mode, line, header)
 }
 
-pub fn sdti_list(
-    system: u8,
-    mode: u8,
-    line: &[u8],
-    out: &mut [u8],
-    listed: &mut [u8],
-) -> u32
+pub fn sdti_list(system: u8, mode: u8, line: &[u8], out: &mut [u8], listed: &mut [u8]) -> u32
     ensures { listings result out.new listed.new ≡ lists system mode line.now out.old listed.old }
 {
     looking::list_packets(system, mode, line, out, listed)

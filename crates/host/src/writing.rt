@@ -23,24 +23,13 @@ pub fn sdti_add(state: &mut [u8], kind: u32, values: &[u8], line: &mut [u8]) -> 
     writing::add_block(state, kind, values, line)
 }
 
-pub fn sdti_add_many(
-    state: &mut [u8],
-    blocks: &[u8],
-    line: &mut [u8],
-    finished: &mut u64,
-) -> u32
+pub fn sdti_add_many(state: &mut [u8], blocks: &[u8], line: &mut [u8], finished: &mut u64) -> u32
     ensures { wrote_many result state.new line.new finished.new ≡ adds_many state.old blocks.now line.old finished.old }
 {
     writing::add_blocks(state, blocks, line, finished)
 }
 
-pub fn sdti_packet(
-    state: &mut [u8],
-    did: u8,
-    second: u8,
-    values: &[u8],
-    line: &mut [u8],
-) -> u32
+pub fn sdti_packet(state: &mut [u8], did: u8, second: u8, values: &[u8], line: &mut [u8]) -> u32
     ensures { wrote result state.new line.new ≡ packs state.old did second values.now line.old }
 {
     writing::add_packet(state, did, second, values, line)
