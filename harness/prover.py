@@ -3,12 +3,12 @@
 An edit is a text: lines with # say what it is; then for each file `file:`, and pairs of `old:` and `new:`, each one line or several one
 after another. An old text stands exactly once in its file. A file with no old text is a new one.
 
-A crate that was proved carries its checked modules in target/rlib, and the prover takes them from its incremental folder without
-checking them again. So an edit is checked over a folder with these modules, and costs what depends on the changed lines. An accepted
-crate would rest on that folder; that an edit is refused does not.
+`rt check` keeps what it proved of a crate in crates/CRATE/out, and the prover takes its modules from there without checking them again. So an
+edit is checked over a copy of that folder, by the prover's own command as `rt check` gives it, and costs what depends on the changed lines. `rt
+must-fail` does the same; but it takes no edits of several lines or crates, and says one line of what the prover said. An accepted crate would rest
+on that folder; that an edit is refused does not.
 """
 import os
-import platform
 import re
 import shutil
 import subprocess
@@ -18,8 +18,7 @@ from concurrent.futures import ThreadPoolExecutor
 from pathlib import Path
 
 TOP = Path(__file__).resolve().parent.parent
-KIT = Path(os.environ.get("RATTLE_HOME") or Path(shutil.which("rt") or "/rt").resolve().parent.parent)
-OWN = KIT / "on" / platform.machine()
+KIT = Path(shutil.which("rt") or "/rt").resolve().parent.parent
 
 
 class BadEdit(Exception):
@@ -84,21 +83,26 @@ def dependencies():
     return found
 
 
-SEEDS = tempfile.TemporaryDirectory(prefix="checked-")
-LOCK = threading.Lock()
+LOCKS = {name: threading.Lock() for name in dependencies()}
+PROVED = {}
 
 
-def checked(name):
-    """Copies of the crate's checked modules, made once, in a folder that has the name of the prover's build."""
-    with LOCK:
-        seed = Path(SEEDS.name) / name
-        if not seed.is_dir():
-            rlib = TOP / "target" / "rlib" / f"{name}.rlib"
-            if not (rlib / "format").is_file():
-                raise BadEdit(f"{name} is not proved in target/")
-            build = re.search(r"^rattle-build (.*)$", (rlib / "format").read_text(), re.M)[1]
-            shutil.copytree(rlib / "toolchain" / "checked", seed / build.replace("/", "_"))
-        return list(seed.glob("*/*"))
+def proved(name):
+    """The crate's folder with what `rt check` keeps of it. That is run first, once: it proves what is not proved yet, and builds the libraries below."""
+    with LOCKS[name]:
+        if name not in PROVED:
+            ran = subprocess.run(
+                ["rt", "check"], cwd=TOP / "crates" / name, stdin=subprocess.DEVNULL, stdout=subprocess.PIPE, stderr=subprocess.STDOUT, encoding="utf-8", errors="replace"
+            )  # fmt: skip
+            PROVED[name] = None if ran.returncode == 0 else "\n".join(first_error(ran.stdout)[:5] or ran.stdout.splitlines()[-5:])
+    if PROVED[name] is not None:
+        raise BadEdit(f"{name} is not proved:\n{PROVED[name]}")
+    return TOP / "crates" / name / "out"
+
+
+def linked(one, other):
+    """A kept module is linked: the prover writes a module anew, and never into a file."""
+    return os.link(one, other) if str(one).endswith(".oantt") else shutil.copy2(one, other)
 
 
 class Copy:
@@ -120,28 +124,32 @@ class Copy:
         shutil.rmtree(self.here, ignore_errors=True)
 
     def seed(self, name):
-        """The checked modules of the crate as it was proved. They are linked: the prover writes a module anew, and never into a file."""
-        for module in checked(name):
-            folder = self.here / "checked" / module.parent.name
-            folder.mkdir(parents=True, exist_ok=True)
-            os.link(module, folder / module.name)
+        """What was proved of the crate goes into one folder with what was proved of the others."""
+        shutil.copytree(proved(name) / "incremental", self.here / "checked", copy_function=linked, dirs_exist_ok=True)
 
     def check(self, name):
         """Whether the prover accepts the crate; and what it said. A crate that was copied is taken as source by those above it."""
-        words = ["--crate-name", name, f"crates/{name}/src/lib.rt", "--extern", f"std={OWN}/rlib/std.rlib"]
-        for d in dependencies()[name]:
-            words += ["--lib", f"{d}=crates/{d}/src/lib.rt"] if d in self.crates else ["--extern", f"{d}={TOP}/target/rlib/{d}.rlib"]
-        words += ["-L", f"dependency={TOP}/target/rlib", "-L", f"dependency={OWN}/rlib"]
-        words += ["--antt-project", KIT / "logic" / "antt-project.json", "--logic-built", OWN / "logic-built", "--incremental", "checked"]
+        uses, libraries = dependencies(), []
+        words = ["--crate-name", name, f"crates/{name}/src/{root(name)}", "--extern", f"std={KIT}/rlibs/std.rlib"]
+        for d in uses[name]:
+            kept = f"{TOP}/crates/{d}/out/rlib"
+            words += ["--lib", f"{d}:{','.join(['core', 'std', *uses[d]])}=crates/{d}/src/lib.rt"] if d in self.crates else ["--extern", f"{d}={kept}/{d}.rlib"]
+            libraries += ["-L", f"dependency={kept}"]
+        words += [*libraries, "-L", f"dependency={KIT}/rlibs", "--jobs", "1"]
+        words += ["--antt-project", KIT / "rattle" / "logic" / "antt-project.json", "--logic-built", KIT / "logic_built", "--incremental", "checked"]
         ran = subprocess.run(
-            [OWN / "bin" / "rattle", "check", *words],
-            cwd=self.here, stdin=subprocess.DEVNULL, stdout=subprocess.PIPE, stderr=subprocess.STDOUT, encoding="utf-8",
+            [KIT / "bin" / "rattle", "check", *words],
+            cwd=self.here, stdin=subprocess.DEVNULL, stdout=subprocess.PIPE, stderr=subprocess.STDOUT, encoding="utf-8", errors="replace",
         )  # fmt: skip
         if ran.returncode == 0 and re.search(r"^logic=proved ", ran.stdout, re.M):
             return True, ran.stdout
         if ran.returncode == 1 and re.search(r"^logic=not-proved", ran.stdout, re.M):
             return False, ran.stdout
         raise BadEdit(f"{name}: no verdict of the prover (status {ran.returncode}):\n" + "\n".join(ran.stdout.splitlines()[:5]))
+
+
+def root(name):
+    return "main.rt" if (TOP / "crates" / name / "src" / "main.rt").is_file() else "lib.rt"
 
 
 def first_error(log):
