@@ -4,10 +4,11 @@ An edit is a text: lines with # say what it is; then for each file `file:`, and 
 after another. An old text stands exactly once in its file. A file with no old text is a new one.
 
 `rt check` keeps what it proved of a crate in crates/CRATE/out, and the prover takes its modules from there without checking them again. So an
-edit is checked over a copy of that folder, by the prover's own command as `rt check` gives it, and costs what depends on the changed lines. `rt
-must-fail` does the same; but it takes no edits of several lines or crates, and says one line of what the prover said. An accepted crate would rest
-on that folder; that an edit is refused does not.
+edit is checked over a copy of that folder, by the prover's own command as `rt must-fail` gives it, and costs what depends on the changed
+lines. (`rt must-fail` takes no edits of several lines or of several crates, and says only one line of what the prover said.) An accepted
+crate would rest on that folder; that an edit is refused does not.
 """
+import json
 import os
 import re
 import shutil
@@ -101,8 +102,10 @@ def proved(name):
 
 
 def linked(one, other):
-    """A kept module is linked: the prover writes a module anew, and never into a file."""
-    return os.link(one, other) if str(one).endswith(".oantt") else shutil.copy2(one, other)
+    """A kept module is linked: the prover writes a module anew, and never into a file. What two crates have both kept is the same in both."""
+    if not os.path.exists(other):
+        (os.link if str(one).endswith(".oantt") else shutil.copy2)(one, other)
+    return other
 
 
 class Copy:
@@ -127,25 +130,53 @@ class Copy:
         """What was proved of the crate goes into one folder with what was proved of the others."""
         shutil.copytree(proved(name) / "incremental", self.here / "checked", copy_function=linked, dirs_exist_ok=True)
 
-    def check(self, name):
-        """Whether the prover accepts the crate; and what it said. A crate that was copied is taken as source by those above it."""
+    def prover(self, name, *more):
+        """A run of the prover on the crate. A crate that was copied is taken as source by those above it."""
         uses, libraries = dependencies(), []
-        words = ["--crate-name", name, f"crates/{name}/src/{root(name)}", "--extern", f"std={KIT}/rlibs/std.rlib"]
+        words = ["--crate-name", name, f"crates/{name}/src/{root(name)}"]
+        for d in "core", "std":
+            words += ["--extern", f"{d}={KIT}/rlibs/{d}.rlib"]
         for d in uses[name]:
             kept = f"{TOP}/crates/{d}/out/rlib"
             words += ["--lib", f"{d}:{','.join(['core', 'std', *uses[d]])}=crates/{d}/src/lib.rt"] if d in self.crates else ["--extern", f"{d}={kept}/{d}.rlib"]
             libraries += ["-L", f"dependency={kept}"]
         words += [*libraries, "-L", f"dependency={KIT}/rlibs", "--jobs", "1"]
         words += ["--antt-project", KIT / "rattle" / "logic" / "antt-project.json", "--logic-built", KIT / "logic_built", "--incremental", "checked"]
-        ran = subprocess.run(
-            [KIT / "bin" / "rattle", "check", *words],
+        return subprocess.run(
+            [KIT / "bin" / "rattle", "check", *words, *more],
             cwd=self.here, stdin=subprocess.DEVNULL, stdout=subprocess.PIPE, stderr=subprocess.STDOUT, encoding="utf-8", errors="replace",
         )  # fmt: skip
+
+    def check(self, name):
+        """Whether the prover accepts the crate; and what it said."""
+        ran = self.prover(name)
         if ran.returncode == 0 and re.search(r"^logic=proved ", ran.stdout, re.M):
             return True, ran.stdout
         if ran.returncode == 1 and re.search(r"^logic=not-proved", ran.stdout, re.M):
             return False, ran.stdout
         raise BadEdit(f"{name}: no verdict of the prover (status {ran.returncode}):\n" + "\n".join(ran.stdout.splitlines()[:5]))
+
+
+    def names(self, name):
+        """The names of goals, places and steps of the crate's functions, each in the code's order, by the folder of the function's proof."""
+        self.prover(name, "--generated", "names", "--old-names")
+        found = {}
+        for key, told in json.loads((self.here / "names" / "names.json").read_text("utf-8")).items():
+            if "needs" in told:
+                folder = re.sub(r"\.Lts[^.]*$", "", key.partition("-proofs.")[2]).replace(".", "/")
+                found[folder] = [[new for _, new in told["needs"]], told["places_by_name"], [steps[1] for _, _, steps, *_ in told["places"]]]
+        return found
+
+    def follow(self, name, before):
+        """Puts the crate's proofs under the names that goals and steps have now; before: those that they had. The prover makes them of the code, its numbers
+        among them, so that an edit of a number leaves an answer without its goal, and says nothing of the fact."""
+        for folder, now in self.names(name).items():
+            was = before.get(folder, now)
+            words = {a: b for old, new in zip(was, now) if len(old) == len(new) for a, b in zip(old, new) if a != b}
+            if words:
+                one = re.compile(r"(?<![\w'-])(" + "|".join(sorted(map(re.escape, words), key=len, reverse=True)) + r")(?![\w'-])")
+                for path in (self.here / "crates" / name / "proofs" / folder).glob("*.antt"):
+                    path.write_text(one.sub(lambda m: words[m[1]], path.read_text("utf-8")), "utf-8")
 
 
 def root(name):
@@ -156,15 +187,16 @@ def first_error(log):
     """The lines of the first error that is not of another one's making; or what is not proved of a function with no proof of its own."""
     lines = log.splitlines()
     for i, line in enumerate(lines):
-        if re.match(r"\S+:\d+:\d+: error: ", line) and "so this cannot be checked" not in line:
+        if re.match(r"\S+:\d+:\d+: error: ", line) and not re.search(ANOTHER, line):
             end = next((k for k in range(i + 1, len(lines)) if not lines[k].startswith(" ")), len(lines))
             return lines[i:end]
     return [line for line in lines if "it is not proved that" in line][:1]
 
 
-# What the prover says where a fact does not hold, and where only a name or a shape is wrong.
-FACT = r"two types|expected type|no proof of|give a proof of that|does not hold|it is not proved that|`(omega|simp|search|rw)`"
-SHAPE = r"has no `Need-|that can be named from here|expected type `tie\.Need|has no field|not in scope"
+# What the prover says of what only depends on another error; where a fact does not hold; and where only a name or a shape is wrong.
+ANOTHER = r"\d+ declarations? that depends? on .* w(as|ere) not checked"
+FACT = r"two (types|sides)|expected type|no proof of|give a proof of that|does not hold|does not follow|it is not proved that|` ≟ `"
+SHAPE = r"that can be named from here|has no field|record `\S+` \(nearest|not in scope"
 
 
 def shows_nothing(error):
