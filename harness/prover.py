@@ -102,10 +102,15 @@ def proved(name):
 
 
 def linked(one, other):
-    """A kept module is linked: the prover writes a module anew, and never into a file. What two crates have both kept is the same in both."""
-    if not os.path.exists(other):
-        (os.link if str(one).endswith(".oantt") else shutil.copy2)(one, other)
-    return other
+    """A kept module is linked, where it can be: the prover writes a module anew, and never into a file. What two crates both kept is the same."""
+    if os.path.exists(other):
+        return
+    try:
+        if not str(one).endswith(".oantt"):
+            raise OSError
+        os.link(one, other)
+    except OSError:
+        shutil.copy2(one, other)
 
 
 class Copy:
