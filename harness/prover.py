@@ -19,7 +19,7 @@ from concurrent.futures import ThreadPoolExecutor
 from pathlib import Path
 
 TOP = Path(__file__).resolve().parent.parent
-KIT = Path(shutil.which("rt") or "/rt").resolve().parent.parent
+KIT = Path(os.environ.get("RATTLE_HOME") or Path(shutil.which("rt") or "/rt").resolve().parent.parent)
 
 
 class BadEdit(Exception):
@@ -160,7 +160,6 @@ class Copy:
         if ran.returncode == 1 and re.search(r"^logic=not-proved", ran.stdout, re.M):
             return False, ran.stdout
         raise BadEdit(f"{name}: no verdict of the prover (status {ran.returncode}):\n" + "\n".join(ran.stdout.splitlines()[:5]))
-
 
     def names(self, name):
         """The names of goals, places and steps of the crate's functions, each in the code's order, by the folder of the function's proof."""
