@@ -3,17 +3,18 @@
 use mathlib.Core.Path.{◌≡◌, refl, sym, ap, ap₂, ◌∙◌}
 use mathlib.Core.Logic.{⊎_elim}
 use mathlib.Core.List.{List, [], ◌∷◌, ◌++◌, map, append_assoc}
-use Prim.Native.Nat.{ℕ, zero, suc, ◌+◌, ◌-◌, ◌≤◌, min}
+use Prim.Native.Nat.{ℕ, zero, suc, ◌+◌, ◌-◌, ◌<◌, ◌≤◌, min}
 use native.Mathlib.Nat.{zero-sub, sub-zero, suc-sub-suc}
 use native.Mathlib.Omega.{arith}
-use lib.ListN.{length, take, drop, set, length-append, length-drop, drop_of_length-le}
+use lib.ListN.{length, get_or, length-map, take, drop, set, length-append, length-drop, drop_of_length-le}
 use lib.Seq.{length-take-le, take_all, drop_at, drop-drop}
 use borrow.Rule.Slice.PartMut.{put_mid}
 use borrow.Author.Tests.{eq-eqb, ne_eqb}
 use Rattle.lists.proofs.Tests.{lt_or_le, pick_true, pick_false}
 use Rattle.lists.proofs.Parts.{both_back, rest_of}
 use Rattle.blocks.specs.Laid.{laid_on}
-use Rattle.lists.proofs.Lists.{map_part}
+use Rattle.std.proofs.lemmas.List.{ext_get_or}
+use Rattle.lists.proofs.Lists.{map_part, get_d_map_in}
 use Rattle.words.specs.Forms.{byte_word, data_word}
 use Rattle.words.specs.Modes.{word_of}
 
@@ -29,6 +30,10 @@ values_8 mode l e = map_same byte_word (word_of mode) (λ x. sym (pick_true (byt
 pub values_9 : (mode : ℕ) (l : List ℕ) → (mode ≡ 8 → ⊥) → map data_word l ≡ map (word_of mode) l
 unfolding word_of
 values_9 mode l e = map_same data_word (word_of mode) (λ x. sym (pick_false (byte_word x) (data_word x) (ne_eqb mode 8 e))) l
+
+pub map_by_each : (f : ℕ → ℕ) (xs ys : List ℕ) → length ys ≡ length xs → ((k : ℕ) → k < length xs → get_or ys k 0 ≡ f (get_or xs k 0)) → ys ≡ map f xs
+map_by_each f xs ys e h =
+    ext_get_or 0 ys (map f xs) (e ∙ sym (length-map xs f)) (λ i k. let l : i < length xs = omega (arith, k, e) in h i l ∙ sym (get_d_map_in f xs i l))
 
 -- ---- a part from j on, as long as m
 pub part_of : (j m : ℕ) (l : List ℕ) → take (j + m - j) (drop j l) ≡ take m (drop j l)

@@ -39,20 +39,17 @@ fn lay_head(kind: u16, n: usize, j: usize, out: &mut [u16])
         out[5] = b3;
         return;
     }
-    fill::copy_from(&[words::class::SEPARATOR, word, b0, b1, b2, b3], j, out);
+    let head = [words::class::SEPARATOR, word, b0, b1, b2, b3];
+    out.copy_from_slice(&head[j..j + out.len()]);
 }
 
 // The word after the values, where it is still to lay and has room.
 fn put_end(j: usize, out: &mut [u16])
     ensures { out.new ≡ laid_on (drop j (end_code ∷ [])) out.old }
 {
-    if 0 < j {
-        return;
+    if j == 0 && !out.is_empty() {
+        out[0] = words::class::END_CODE;
     }
-    if out.len() == 0 {
-        return;
-    }
-    out[0] = words::class::END_CODE;
 }
 
 // The values and the word after them, from word j.
@@ -60,20 +57,19 @@ fn lay_rest(mode: u8, values: &[u16], j: usize, out: &mut [u16])
     ensures { out.new ≡ laid_on (drop j (map (word_of mode) values.now ++ (end_code ∷ []))) out.old }
 {
     let n = values.len();
-    let a = lists::smaller_of(out.len(), lists::minus_or_zero(n, j));
-    let b = lists::smaller_of(j, n);
-    let e = b + a;
-    fill::put_values(mode, &values[b..e], &mut out[..a]);
-    put_end(lists::minus_or_zero(j, n), &mut out[a..]);
+    let a = out.len().min(n.saturating_sub(j));
+    let b = j.min(n);
+    fill::put_values(mode, &values[b..b + a], &mut out[..a]);
+    put_end(j.saturating_sub(n), &mut out[a..]);
 }
 
 // A variable block's words from word j, as many as there are and have room; the rest of the part stays.
 fn lay_words(mode: u8, kind: u16, values: &[u16], j: usize, out: &mut [u16])
     ensures { out.new ≡ laid_on (drop j (block_words mode kind values.now)) out.old }
 {
-    let a = lists::smaller_of(out.len(), lists::minus_or_zero(6, j));
-    lay_head(kind, values.len(), lists::smaller_of(j, 6), &mut out[..a]);
-    lay_rest(mode, values, lists::minus_or_zero(j, 6), &mut out[a..]);
+    let a = out.len().min(6usize.saturating_sub(j));
+    lay_head(kind, values.len(), j.min(6), &mut out[..a]);
+    lay_rest(mode, values, j.saturating_sub(6), &mut out[a..]);
 }
 
 // The same, and the CRC taken on over the part. No length is tested: all lengths are clamped anyway, and a test more is seen in blocks of a few words.

@@ -1,53 +1,15 @@
 // Lent parts filled with words. Each is lent exactly the part that it fills, so that no promise has an offset.
-ghost use Rattle.std.specs.Prelude.{◌≡◌, map, ◌+◌, ◌≤◌, length, take, drop};
-ghost use Rattle.words.specs.Forms.{byte_word, data_word};
+ghost use Rattle.std.specs.Prelude.{◌≡◌, ℕ, map, ◌+◌, ◌<◌, ◌≤◌, length, take, drop, slice_index};
 ghost use Rattle.words.specs.Modes.{word_of};
-ghost use Rattle.blocks.specs.Laid.{laid_in};
 
-// The words of s, into a part that is as long as they are.
-pub fn copy_in(s: &[u16], out: &mut [u16])
-    ensures { out.new ≡ laid_in s.now out.old }
+// Each word as f makes it of a value.
+fn put_each<F: Fn(u16) -> u16>(f: F, values: &[u16], out: &mut [u16])
+    requires long { length out.old ≡ length values.now }
+    requires calls { F.IsAlwaysCallable f }
+    ensures { (k : ℕ) → k < length values.now → F.post f (slice_index values.now k) (slice_index out.new k) }
 {
-    if s.len() != out.len() {
-        return;
-    }
-    let mut i = 0;
-    while i < s.len() {
-        out[i] = s[i];
-        i += 1;
-    }
-}
-
-// The words of s from word j, as many as there is room for.
-pub(crate) fn copy_from(s: &[u16], j: usize, out: &mut [u16])
-    requires { j + length out.old ≤ length s.now }
-    ensures { out.new ≡ take (length out.old) (drop j s.now) }
-{
-    let e = j + out.len();
-    copy_in(&s[j..e], out);
-}
-
-// The values in byte form.
-fn put_bytes(values: &[u16], out: &mut [u16])
-    requires { length out.old ≡ length values.now }
-    ensures { out.new ≡ map byte_word values.now }
-{
-    let mut i = 0;
-    while i < values.len() {
-        out[i] = words::forms::byte_word(values[i]);
-        i += 1;
-    }
-}
-
-// The values in data form.
-fn put_nines(values: &[u16], out: &mut [u16])
-    requires { length out.old ≡ length values.now }
-    ensures { out.new ≡ map data_word values.now }
-{
-    let mut i = 0;
-    while i < values.len() {
-        out[i] = words::forms::data_word(values[i]);
-        i += 1;
+    for (i, o) in out.iter_mut().enumerate() {
+        *o = f(values[i]);
     }
 }
 
@@ -57,8 +19,8 @@ pub(crate) fn put_values(mode: u8, values: &[u16], out: &mut [u16])
     ensures { out.new ≡ map (word_of mode) values.now }
 {
     if mode == 8 {
-        put_bytes(values, out);
+        put_each(|v| words::forms::byte_word(v), values, out);
     } else {
-        put_nines(values, out);
+        put_each(|v| words::forms::data_word(v), values, out);
     }
 }

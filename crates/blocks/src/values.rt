@@ -8,10 +8,8 @@ pub fn all_below(limit: u16, s: &[u16]) -> bool
     ensures { result ≡ each (λ v. ltb v limit) s.now }
 {
     let mut ok = true;
-    let mut i = 0;
-    while i < s.len() {
-        ok = ok & (s[i] < limit);
-        i += 1;
+    for v in s {
+        ok &= *v < limit;
     }
     ok
 }
@@ -20,11 +18,9 @@ pub fn all_below(limit: u16, s: &[u16]) -> bool
 fn bits_of(s: &[u16]) -> u16
     ensures { (n : ℕ) → ltb result (2 ^ n) ≡ each (λ v. ltb v (2 ^ n)) s.now }
 {
-    let mut bits = 0u16;
-    let mut i = 0;
-    while i < s.len() {
-        bits = bits | s[i];
-        i += 1;
+    let mut bits = 0;
+    for v in s {
+        bits |= *v;
     }
     bits
 }
@@ -34,13 +30,9 @@ fn bits_of(s: &[u16]) -> u16
 pub fn all_valued(mode: u8, s: &[u16]) -> bool
     ensures { result ≡ each (λ v. ltb v (values mode)) s.now }
 {
-    let limit = words::forms::values_of(mode);
-    let mut bits = 0u16;
-    let mut i = 0;
-    while 512 <= s.len() - i {
-        let e = i + 512;
-        bits = bits | bits_of(&s[i..e]);
-        i = e;
+    let mut bits = 0;
+    for c in s.chunks(512) {
+        bits |= bits_of(c);
     }
-    (bits < limit) & all_below(limit, &s[i..])
+    bits < words::forms::values_of(mode)
 }

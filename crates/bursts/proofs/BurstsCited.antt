@@ -1,5 +1,6 @@
 -- Each field of the statement, cited at an instance that a weaker one would not give, its type written out.
 -- Assumes nothing.
+use Rattle.std.specs.Prelude.{None}
 use mathlib.Core.Path.{◌≡◌, refl, sym, ap, ◌∙◌, subst}
 use mathlib.Core.Bool.{true}
 use mathlib.Core.List.{List, [], ◌∷◌, ◌++◌}
@@ -11,8 +12,6 @@ use Rattle.lists.specs.Tests.{lowest_of}
 use Rattle.words.specs.Modes.{is_mode}
 use Rattle.line.specs.Systems.{row, system_of, is_system}
 use Rattle.line.specs.Check.{settings_of, faults, line_fault}
-use Rattle.course.specs.declared.Last.TheVariants.{Unknown}
-use Rattle.course.specs.declared.Place.TheVariants.{Shut}
 use Rattle.course.specs.Course.{next_number}
 use Rattle.machine.specs.declared.phase.Phase.TheVariants.{Idle}
 use Rattle.machine.specs.Phases.{is_busy}
@@ -46,7 +45,7 @@ pub checked_3_8 : Checked 3 8
 checked_3_8 line line' accepted guarded burst = bursts.checked 3 8 line line' (record { accepted = accepted; guarded = guarded; burst = burst })
 
 -- `read`: with an open block, which is dropped; and what it leaves
-pub read_busy : (st : Reader) (line line' room : List ℕ) → read_fault st (length line') (length room) ≡ 0 → st.place ≡ Shut → is_busy st.phase ≡ true
+pub read_busy : (st : Reader) (line line' room : List ℕ) → read_fault st (length line') (length room) ≡ 0 → st.place ≡ None → is_busy st.phase ≡ true
     → Hit st.system st.mode 18 line line'
     → ((reading st line' room).told.event ≡ Refused 15 true) ⊎ ((reading st line' room).told.event ≡ Refused 16 true)
 read_busy st line line' room fit shut busy h =
@@ -54,8 +53,8 @@ read_busy st line line' room fit shut busy h =
     (λ n is. ap (λ (x : Answer). x.told.event) (bursts.read st line line' room fit shut h) ∙ ap (λ (k : ℕ). Refused k (is_busy st.phase)) is ∙ ap (Refused n) busy) in
     ⊎_elim (λ e. inl (told 15 e)) (λ e. inr (told 16 e)) (bursts.checked st.system st.mode line line' h)
 
-pub read_leaves : (st : Reader) (line line' room : List ℕ) → read_fault st (length line') (length room) ≡ 0 → st.place ≡ Shut → Hit st.system st.mode 18 line line'
-    → ((reading st line' room).told.state ≡ record { system = st.system; mode = st.mode; last = Unknown; settings = st.settings; place = Shut; phase = Idle })
+pub read_leaves : (st : Reader) (line line' room : List ℕ) → read_fault st (length line') (length room) ≡ 0 → st.place ≡ None → Hit st.system st.mode 18 line line'
+    → ((reading st line' room).told.state ≡ record { system = st.system; mode = st.mode; last = None; settings = st.settings; place = None; phase = Idle })
     × ((reading st line' room).room ≡ room)
 read_leaves st line line' room fit shut h =
     let e = bursts.read st line line' room fit shut h in

@@ -1,13 +1,12 @@
 -- SHORT BURSTS NEVER PASS (02, Item 13). In an accepted line with flag 01h, any mode and system, change at least one bit, all changed bits within 18
 -- consecutive ones (B0 first) of the words that the payload CRC covers. The line is then refused, with 15 or 16.
 -- Assumes nothing.
-use Rattle.std.specs.Prelude.{ℕ, ◌+◌, ◌<◌, ◌≤◌, true, List, [], ◌∷◌, ◌⊎◌, ◌≡◌, length}
+use Rattle.std.specs.Prelude.{ℕ, ◌+◌, ◌<◌, ◌≤◌, true, List, [], ◌∷◌, ◌⊎◌, ◌≡◌, length, None}
 use Rattle.lists.specs.Tests.{lowest_of}
 use Rattle.words.specs.Modes.{is_mode}
 use Rattle.line.specs.declared.systems.System.{System}
 use Rattle.line.specs.Systems.{system_of, is_system}
 use Rattle.line.specs.Check.{settings_of, faults, line_fault}
-use Rattle.course.specs.declared.Place.TheVariants.{Shut}
 use Rattle.reader.specs.declared.state.Reader.{Reader}
 use Rattle.reader.specs.State.{capacity, fresh}
 use Rattle.reader.specs.Reading.{reply, refused, read_fault, reading}
@@ -61,7 +60,7 @@ pub record Bursts : Type 0 where
   pub once : NeverAtAnyLength 18
   pub checked : NeverPasses 18
   -- the reader with no line begun, and neither 1 nor 2, refuses it with that number: phase idle, last number none, settings kept; the room is as lent
-  pub read : (st : Reader) (line line' room : List ℕ) → read_fault st (length line') (length room) ≡ 0 → st.place ≡ Shut → Hit st.system st.mode 18 line line'
+  pub read : (st : Reader) (line line' room : List ℕ) → read_fault st (length line') (length room) ≡ 0 → st.place ≡ None → Hit st.system st.mode 18 line line'
       → reading st line' room ≡ reply (refused st (line_fault st.system st.mode line')) room
   -- such a line is a replaced line of demand 3: words of the same length that the line check refuses
   pub as_replaced : (system mode : ℕ) (line line' : List ℕ) → Hit system mode 18 line line' → RefusedIfReplaced system mode (replaced line')

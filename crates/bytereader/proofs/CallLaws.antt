@@ -1,5 +1,6 @@
 -- Laws of a call over bytes: what it asks, what 1 and 2 tell, and that the bytes of the room are those of its words.
 -- Assumes nothing.
+use Rattle.std.specs.Prelude.{Option}
 use mathlib.Core.Path.{◌≡◌, refl, sym, ap, ap₂, ◌∙◌}
 use mathlib.Core.Bool.{Bool, true, false, not, ◌&&◌}
 use mathlib.Core.List.{List}
@@ -18,7 +19,6 @@ use Rattle.line.specs.Fixed.{size_of}
 use Rattle.line.proofs.SystemLaws.{fitting, length_most}
 use Rattle.line.specs.Check.{checked_of}
 use Rattle.course.specs.Course.{blocks_end}
-use Rattle.course.specs.declared.Place.{Place}
 use Rattle.machine.specs.declared.phase.Phase.{Phase}
 use Rattle.machine.specs.declared.step.Met.{Met}
 use Rattle.machine.specs.declared.step.Met.TheVariants.{Nothing, Whole, Lost}
@@ -64,10 +64,10 @@ by_met st q p Nothing = refl
 by_met st q p (Whole k n) = refl
 by_met st q p (Lost n) = refl
 
-pub went_told : (st : Reader) (q : ℕ) (p : Phase) (met : Met) (n : ℕ) {e : Event} {at : Place} → e ≡ event_by met → at ≡ place_by met q
+pub went_told : (st : Reader) (q : ℕ) (p : Phase) (met : Met) (n : ℕ) {e : Event} {at : Option ℕ} → e ≡ event_by met → at ≡ place_by met q
     → went_of st (record { report = Tells e; consumed = n; place = at; phase = p }) ≡ tells n (told_by st q p met)
 went_told st q p met n f g =
-    ap₂ (λ (e : Event) (at : Place). tells n (record { event = e; state = becomes st st.last st.settings at p })) f g
+    ap₂ (λ (e : Event) (at : Option ℕ). tells n (record { event = e; state = becomes st st.last st.settings at p })) f g
     ∙ ap (tells n) (by_met st q p met)
 
 module _ (st : Reader) (line room : List ℕ) where

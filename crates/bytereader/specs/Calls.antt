@@ -1,11 +1,9 @@
 -- What a call under an allowance gives back: not the whole state, but what is told of it and what it changes. Each is the reader's call.
 -- Assumes nothing.
-use Rattle.std.specs.Prelude.{ℕ, ◌/◌, Bool, true, false, List, ltb, length}
+use Rattle.std.specs.Prelude.{ℕ, ◌/◌, Bool, true, false, List, ltb, length, Option, Some, None}
 use Rattle.lists.specs.Tests.{pick}
 use Rattle.octets.specs.Bytes.{words_of}
 use Rattle.line.specs.Check.{checked_of}
-use Rattle.course.specs.declared.Place.{Place}
-use Rattle.course.specs.declared.Place.TheVariants.{Shut, At}
 use Rattle.machine.specs.declared.step.Met.{Met}
 use Rattle.machine.specs.declared.step.Met.TheVariants.{Nothing, Whole, Lost}
 use Rattle.reader.specs.declared.state.Reader.{Reader}
@@ -26,10 +24,10 @@ event_by Nothing = End
 event_by (Whole k n) = Block k n
 event_by (Lost n) = Drop n
 
-abbrev pub place_by : Met → ℕ → Place
-place_by Nothing q = Shut
-place_by (Whole k n) q = At q
-place_by (Lost n) q = At q
+abbrev pub place_by : Met → ℕ → Option ℕ
+place_by Nothing q = None
+place_by (Whole k n) q = Some q
+place_by (Lost n) q = Some q
 
 -- a call on a begun line changes the place and the phase
 abbrev pub went_of : Reader → Went → Within

@@ -5,7 +5,6 @@ ghost use Rattle.octets.specs.Bytes.{words_of};
 ghost use Rattle.line.specs.Systems.{system_of};
 ghost use Rattle.line.specs.Fixed.{size_of};
 ghost use Rattle.course.specs.Course.{blocks_end};
-ghost use Rattle.course.specs.declared.Place.TheVariants.{At};
 ghost use Rattle.machine.specs.Walk.{leaves};
 ghost use Rattle.reader.specs.State.{capacity};
 ghost use Rattle.reader.specs.Reading.{read_fault};
@@ -13,8 +12,6 @@ ghost use Rattle.reader.specs.Asking.{barred, asked};
 ghost use Rattle.bytereader.specs.Calls.{event_by, place_by, went_of};
 ghost use Rattle.reader.specs.Within.{sliced, unit_of, walk_to, walk_within, goes_within};
 
-use bytewalks::{places, walk};
-use course::Place;
 use line::{fixed, systems};
 use machine::phase::Phase;
 use machine::step::Met;
@@ -23,13 +20,14 @@ use reader::read::Asked;
 use reader::state::{Event, Reader};
 use reader::within::Report;
 use reader::{read, state};
+use walks::{places, walk};
 
 // What a call on a begun line changes: what it reports and how much it consumed, the place and the phase.
 #[derive(Clone, Copy)]
 pub struct Went {
     pub report: Report,
     pub consumed: usize,
-    pub place: Place,
+    pub place: Option<usize>,
     pub phase: Phase,
 }
 
@@ -49,20 +47,18 @@ pub(crate) fn ask(st: Reader, line: usize, room: usize) -> Asked
 
 // The walk from place q to before another, which is no further than the end of the words in which blocks stand.
 fn walk_from(st: Reader, end: usize, size: u16, q: usize, line: &[u8], room: &mut [u8]) -> Walked
-    requires { (st.place ≡ At q) × (read_fault st (length (words_of line.now)) (length (words_of room.old)) ≡ 0) × (q ≤ end)
+    requires { (st.place ≡ Some q) × (read_fault st (length (words_of line.now)) (length (words_of room.old)) ≡ 0) × (q ≤ end)
         × (end ≤ blocks_end (system_of st.system).payload st.settings.block st.settings.flag) × (size ≡ size_of st.settings.block) }
     ensures { leaves result (words_of room.new) ≡ walk_to end st q (words_of line.now) (words_of room.old) }
 {
     let s = systems::system_of(st.system);
-    let settings = st.settings;
-    let phase = st.phase;
     let a = s.length - s.payload;
-    let e = 2 * (a + end);
     let i = 2 * (a + q);
-    if fixed::is_variable(settings.block) {
-        return walk::walk(st.mode, phase, &line[i..e], room);
+    let e = 2 * (a + end);
+    if fixed::is_variable(st.settings.block) {
+        return walk::walk(st.mode, st.phase, &line[i..e], room);
     }
-    places::walk_fixed(st.mode, phase, size as usize, &line[i..e], room)
+    places::walk_fixed(st.mode, st.phase, usize::from(size), &line[i..e], room)
 }
 
 // The words that count as one.
@@ -73,7 +69,7 @@ fn unit_of(block: u8, size: u16) -> usize
     if fixed::is_variable(block) {
         return 1;
     }
-    size as usize
+    usize::from(size)
 }
 
 // What a call on a begun line tells of what was met.
@@ -82,22 +78,18 @@ fn event_by(met: Met) -> Event
 {
     match met {
         Met::Nothing => Event::End,
-        Met::Whole { kind, length } => Event::Block {
-            kind: kind,
-            length: length,
-        },
-        Met::Lost { reason } => Event::Drop { reason: reason },
+        Met::Whole { kind, length } => Event::Block { kind, length },
+        Met::Lost { reason } => Event::Drop { reason },
     }
 }
 
 // The place afterwards, q unless the line has ended.
-fn place_by(met: Met, q: usize) -> Place
+fn place_by(met: Met, q: usize) -> Option<usize>
     ensures { result ≡ place_by met q }
 {
     match met {
-        Met::Nothing => Place::Shut,
-        Met::Whole { kind: _, length: _ } => Place::At(q),
-        Met::Lost { reason: _ } => Place::At(q),
+        Met::Nothing => None,
+        Met::Whole { .. } | Met::Lost { .. } => Some(q),
     }
 }
 
@@ -111,33 +103,28 @@ pub(crate) fn go_on(
     line: &[u8],
     room: &mut [u8],
 ) -> Went
-    requires { (st.place ≡ At q) × (read_fault st (length (words_of line.now)) (length (words_of room.old)) ≡ 0)
+    requires { (st.place ≡ Some q) × (read_fault st (length (words_of line.now)) (length (words_of room.old)) ≡ 0)
         × (end ≡ blocks_end (system_of st.system).payload st.settings.block st.settings.flag) × (size ≡ size_of st.settings.block) }
     ensures { sliced (went_of st result) (words_of room.new)
         ≡ goes_within allowance st q (walk_within allowance st q (words_of line.now) (words_of room.old)) }
 {
-    let t = st.settings;
-    let unit = unit_of(t.block, size);
-    let far = q + lists::smaller_of(allowance, (end - q) / unit) * unit;
+    let unit = unit_of(st.settings.block, size);
+    let far = q + allowance.min((end - q) / unit) * unit;
     let x = walk_from(st, far, size, q, line, room);
-    let phase = x.phase;
-    let met = x.met;
     let next = q + x.taken;
     let consumed = x.taken / unit;
-    if machine::walk::is_nothing(met) & (consumed == allowance) {
+    if machine::walk::is_nothing(x.met) & (consumed == allowance) {
         return Went {
             report: Report::Paused,
-            consumed: consumed,
-            place: Place::At(next),
-            phase: phase,
+            consumed,
+            place: Some(next),
+            phase: x.phase,
         };
     }
-    let event = event_by(met);
-    let place = place_by(met, next);
     Went {
-        report: Report::Told(event),
-        consumed: consumed,
-        place: place,
-        phase: phase,
+        report: Report::Told(event_by(x.met)),
+        consumed,
+        place: place_by(x.met, next),
+        phase: x.phase,
     }
 }

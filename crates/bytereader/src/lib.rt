@@ -8,7 +8,6 @@ ghost use Rattle.std.specs.Prelude.{◌≡◌, true, not, eqb, length};
 ghost use Rattle.bytereader.specs.Bytewise.{within_bytes, bytes_fault};
 ghost use Rattle.bytereader.specs.Calls.{start_bytes, left_by, is_barred};
 
-use course::Place;
 use goes::Went;
 use reader::begin;
 use reader::state::{Event, Reader, Told};
@@ -26,7 +25,8 @@ pub enum Outcome {
 pub fn start(st: Reader, line: &[u8]) -> Told
     ensures { result ≡ start_bytes st line.now }
 {
-    if 2304 < line.len() / 2 {
+    let n = line.len() / 2;
+    if 2304 < n {
         return Told {
             event: Event::Refused {
                 answer: 1,
@@ -37,7 +37,6 @@ pub fn start(st: Reader, line: &[u8]) -> Told
     }
     let mut words = [0u16; 2304];
     octets::words_of(line, &mut words);
-    let n = line.len() / 2;
     begin::start(st, &words[..n])
 }
 
@@ -51,18 +50,16 @@ pub fn call(st: Reader, allowance: usize, line: &[u8], room: &mut [u8]) -> Outco
     if x.fault != 0 {
         return Outcome::Barred(x.fault);
     }
-    let place = st.place;
-    let phase = st.phase;
     if allowance == 0 {
         return Outcome::Goes(Went {
             report: Report::Paused,
             consumed: 0,
-            place: place,
-            phase: phase,
+            place: st.place,
+            phase: st.phase,
         });
     }
-    match place {
-        Place::Shut => Outcome::Starts,
-        Place::At(q) => Outcome::Goes(goes::go_on(st, allowance, x.end, x.size, q, line, room)),
+    match st.place {
+        None => Outcome::Starts,
+        Some(q) => Outcome::Goes(goes::go_on(st, allowance, x.end, x.size, q, line, room)),
     }
 }

@@ -19,7 +19,7 @@ fn entry_end(at: usize, blocks: &[u8]) -> usize
     if left < 2 {
         return 0;
     }
-    let n = octets::word_at(blocks, at + 1) as usize;
+    let n = usize::from(octets::word_at(blocks, at + 1));
     if left - 2 < n {
         return 0;
     }
@@ -30,20 +30,20 @@ fn ended(finished: usize, stop: Stop, state: Writer) -> Batch
     ensures { (result.finished ≡ finished) × (result.stop ≡ stop) × (result.state ≡ state) }
 {
     Batch {
-        finished: finished,
-        stop: stop,
-        state: state,
+        finished,
+        stop,
+        state,
     }
 }
 
-// The entries one after another, each as by a single call.
+// The entries one after another, each as by a single call. It is a `while`, because an entry says itself how long it is: no range and no chain is plainer.
 fn lay_each(w: Writer, blocks: &[u8], line: &mut [u16]) -> Batch
     ensures { batched result.finished result.stop result.state line.new ≡ lay_all w line.old 0 (entries_of (words_of blocks.now)) }
 {
     let n = blocks.len() / 2;
     let mut now = w;
-    let mut at = 0usize;
-    let mut finished = 0usize;
+    let mut at = 0;
+    let mut finished = 0;
     while at < n {
         let e = entry_end(at, blocks);
         if e == 0 {
@@ -53,18 +53,12 @@ fn lay_each(w: Writer, blocks: &[u8], line: &mut [u16]) -> Batch
         let to = 2 * e;
         let kind = octets::word_at(blocks, at);
         let x = adding::add_valued(now, kind, &blocks[from..to], line);
-        let answer = x.answer;
-        let state = x.state;
-        match answer {
-            Laid::Refused(n) => {
-                return ended(finished, Stop::Refused(n), state);
-            }
-            Laid::Unfinished => {
-                return ended(finished, Stop::Unfinished, state);
-            }
+        match x.answer {
+            Laid::Refused(n) => return ended(finished, Stop::Refused(n), x.state),
+            Laid::Unfinished => return ended(finished, Stop::Unfinished, x.state),
             Laid::Finished => {}
         }
-        now = state;
+        now = x.state;
         at = e;
         finished += 1;
     }

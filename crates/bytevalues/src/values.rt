@@ -8,12 +8,9 @@ ghost use Rattle.bytevalues.specs.Standing.{stand_in, standing};
 fn all_below(limit: u16, bytes: &[u8]) -> bool
     ensures { result ≡ each (λ v. ltb v limit) (words_of bytes.now) }
 {
-    let n = bytes.len() / 2;
     let mut ok = true;
-    let mut i = 0;
-    while i < n {
-        ok = ok & (octets::word_at(bytes, i) < limit);
-        i += 1;
+    for i in 0..bytes.len() / 2 {
+        ok &= octets::word_at(bytes, i) < limit;
     }
     ok
 }

@@ -17,7 +17,7 @@ pub(crate) fn payload_at(system: u8) -> usize
     ensures { result ≡ payload_at (system_of system) }
 {
     let s = systems::system_of(system);
-    lists::minus_or_zero(s.length, s.payload)
+    s.length.saturating_sub(s.payload)
 }
 
 // A block of a fixed line with few values: its words are laid into a place of their own, and go back from there.
@@ -32,15 +32,12 @@ fn add_small(w: Writer, kind: u16, values: &[u8], line: &mut [u8]) -> Addition
     octets::words_of(values, &mut vs);
     let mut place = [0u16; 33];
     let r = writer::adding::add_place(w, long, kind, &vs[..n], &mut place[..k]);
-    let state = r.state;
-    let before = w.place;
-    let after = state.place;
     let start = payload_at(w.system);
     lent::give_place(
         &place[..k],
         start,
-        course::place_of(before),
-        course::place_of(after),
+        course::place_of(w.place),
+        course::place_of(r.state.place),
         line,
     );
     r
@@ -62,15 +59,12 @@ pub fn add_block(w: Writer, kind: u16, values: &[u8], line: &mut [u8]) -> Additi
     let long = line.len() / 2;
     let mut words = [0u16; 2304];
     let r = bytevalues::adding::add_valued(w, kind, values, &mut words[..long]);
-    let state = r.state;
-    let before = w.place;
-    let after = state.place;
     let start = payload_at(w.system);
     lent::give_back(
         &words[..long],
         start,
-        course::place_of(before),
-        course::place_of(after),
+        course::place_of(w.place),
+        course::place_of(r.state.place),
         line,
     );
     r

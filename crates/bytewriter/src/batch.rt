@@ -21,15 +21,12 @@ pub fn add_blocks(w: Writer, blocks: &[u8], line: &mut [u8]) -> Batch
     let long = line.len() / 2;
     let mut words = [0u16; 2304];
     let r = bytevalues::batch::add_listed(w, blocks, &mut words[..long]);
-    let state = r.state;
-    let before = w.place;
-    let after = state.place;
     let start = adding::payload_at(w.system);
     lent::give_back(
         &words[..long],
         start,
-        course::place_of(before),
-        course::place_of(after),
+        course::place_of(w.place),
+        course::place_of(r.state.place),
         line,
     );
     r

@@ -28,9 +28,14 @@ pub fn close_line(w: Writer, line: &mut [u8]) -> Reply
     let long = line.len() / 2;
     let mut words = [0u16; 2304];
     let r = lines::closing::close_line(w, &mut words[..long]);
-    let answer = r.answer;
     let k = behind_area(w.settings.flag);
-    let start = lists::minus_or_zero(long, k);
-    lent::give_back(&words[..long], start, 0, opening::done_in(answer, k), line);
+    let start = long.saturating_sub(k);
+    lent::give_back(
+        &words[..long],
+        start,
+        0,
+        opening::done_in(r.answer, k),
+        line,
+    );
     r
 }

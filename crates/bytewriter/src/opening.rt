@@ -32,8 +32,7 @@ pub fn open_line(w: Writer, f: bool, v: bool, n: u16, t: Settings, line: &mut [u
     let long = line.len() / 2;
     let mut words = [0u16; 2304];
     let r = lines::opening::open_line(w, f, v, n, t, &mut words[..long]);
-    let answer = r.answer;
-    let laid = done_in(answer, long);
+    let laid = done_in(r.answer, long);
     lent::give_back(&words[..long], 0, 0, laid, line);
     r
 }

@@ -20,7 +20,12 @@ pub fn add_packet(w: Writer, did: u8, second: u8, values: &[u8], line: &mut [u8]
     let long = line.len() / 2;
     let mut words = [0u16; 2304];
     let r = bytevalues::packing::pack_valued(w, did, second, values, &mut words[..long]);
-    let after = r.state.used as usize;
-    lent::give_back(&words[..long], 57, w.used as usize, after, line);
+    lent::give_back(
+        &words[..long],
+        57,
+        w.used as usize,
+        r.state.used as usize,
+        line,
+    );
     r
 }

@@ -1,5 +1,6 @@
 -- The answers of the library's calls, by their 1 and 2: where one of these holds it is the answer, and where none does the answer is neither. So a call from C can ask 1 and 2 first,
 -- and needs no look at what the call said. Assumes nothing.
+use Rattle.std.specs.Prelude.{Option, Some, None}
 use Prim.Native.Nat.{ℕ, zero, suc, ◌+◌, ◌/◌, ◌≤◌, ◌<◌}
 use mathlib.Core.Bool.{Bool, true, false, not, ◌||◌}
 use mathlib.Core.Logic.{◌⊎◌, inl, inr, ⊎_elim}
@@ -20,8 +21,6 @@ use Rattle.line.specs.Settings.{settings_faults}
 use Rattle.line.specs.Check.{line_fault, fits_length}
 use Rattle.line.proofs.CheckLaws.{from_three}
 use Rattle.course.specs.Course.{place_of}
-use Rattle.course.specs.declared.Place.{Place}
-use Rattle.course.specs.declared.Place.TheVariants.{Shut, At}
 use Rattle.machine.specs.declared.phase.Phase.{Phase}
 use Rattle.machine.specs.declared.step.Met.{Met}
 use Rattle.machine.specs.declared.step.Met.TheVariants.{Nothing, Whole, Lost}
@@ -112,16 +111,16 @@ told_none st q p (Whole k n) = refl
 told_none st q p (Lost n) = refl
 
 module _ (st : Reader) (line room : List ℕ) (e : read_fault st (length line) (length room) ≡ 0) where
-  by_line : (n : ℕ) → line_fault st.system st.mode line ≡ n → st.place ≡ Shut → (event_answer (reading st line room).told.event ≡ 0) ⊎ (3 ≤ event_answer (reading st line room).told.event)
+  by_line : (n : ℕ) → line_fault st.system st.mode line ≡ n → st.place ≡ None → (event_answer (reading st line room).told.event ≡ 0) ⊎ (3 ≤ event_answer (reading st line room).told.event)
   unfolding begun
   by_line zero f s = inl (ap (λ (x : Reply). event_answer x.told.event) (accepts st line room e s f))
   by_line (suc n) f s =
       let is = ap (λ (x : Reply). event_answer x.told.event) (refuses st line room e s (suc n) f (λ z. omega (arith, z))) in
       inr (omega (arith, is, f, from_three st.system st.mode line (ready st line room e).fit (λ z. omega (arith, z, f))))
 
-  by_where : (p : Place) → st.place ≡ p → (event_answer (reading st line room).told.event ≡ 0) ⊎ (3 ≤ event_answer (reading st line room).told.event)
-  by_where Shut s = by_line _ refl s
-  by_where (At q) s = inl (ap (λ (x : Reply). event_answer x.told.event) (by_place st line room (At q) e s) ∙ (let x = walk_from st q line room in told_none st (q + x.answer.taken) x.answer.phase x.answer.met))
+  by_where : (p : Option ℕ) → st.place ≡ p → (event_answer (reading st line room).told.event ≡ 0) ⊎ (3 ≤ event_answer (reading st line room).told.event)
+  by_where None s = by_line _ refl s
+  by_where (Some q) s = inl (ap (λ (x : Reply). event_answer x.told.event) (by_place st line room (Some q) e s) ∙ (let x = walk_from st q line room in told_none st (q + x.answer.taken) x.answer.phase x.answer.met))
 
 pub read_answers_lem : (st : Reader) (line room : List ℕ) → AnswersBy (read_fault st (length line) (length room)) (event_answer (reading st line room).told.event)
 unfolding read_fault_in
@@ -133,12 +132,12 @@ read_answers_lem st line room = record {
 
 -- under an allowance
 module _ (a : ℕ) (st : Reader) (line room : List ℕ) where
-  within_where : read_fault st (length line) (length room) ≡ 0 → (p : Place) → st.place ≡ p
+  within_where : read_fault st (length line) (length room) ≡ 0 → (p : Option ℕ) → st.place ≡ p
       → (report_answer (within_from p a st line room).answer.report ≡ 0) ⊎ (3 ≤ report_answer (within_from p a st line room).answer.report)
   unfolding goes_within
-  within_where e Shut s =
-      subst (λ (n : ℕ). (n ≡ 0) ⊎ (3 ≤ n)) (ap (λ (x : Reply). event_answer x.told.event) (by_place st line room Shut e s)) (by_where st line room e Shut s)
-  within_where e (At q) s =
+  within_where e None s =
+      subst (λ (n : ℕ). (n ≡ 0) ⊎ (3 ≤ n)) (ap (λ (x : Reply). event_answer x.told.event) (by_place st line room None e s)) (by_where st line room e None s)
+  within_where e (Some q) s =
       let x = walk_within a st q line room in
       let next = q + x.answer.taken in
       pick_elim (λ (y : Within). (report_answer y.report ≡ 0) ⊎ (3 ≤ report_answer y.report)) (is_pause a (x.answer.taken / unit_of st.settings.block) x)

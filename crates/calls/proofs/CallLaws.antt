@@ -84,24 +84,27 @@ module _ {A X : Type 0} (c : WriterCall A X) where
   pub wrong : c.shaped ≡ false → c.kept 1 ≡ called c
   wrong s = misshaped c.kept _ c.shaped (is_writer c.state) (c.answer (c.call (writer_from c.state))) s
 
-  -- the image copied, the state that it spells, what is even, and the early answer k of these
-  module _ {image : List ℕ} {w : Writer} {even is : Bool} {fault k : ℕ} (right : c.shaped ≡ true) (copied : image ≡ c.state) (spelt : w ≡ writer_from image) (words : even ≡ c.even)
-      (early : fault ≡ write_early w c.long even) (shown : is ≡ is_writer image) (asked : k ≡ early_by is fault) where
-    same : w ≡ writer_from c.state
-    same = spelt ∙ ap writer_from copied
+  -- what is asked before the call: 1 of a wrong shape, and then 1 and 2 of the image and its state
+  module _ {shaped even : Bool} (fits : shaped ≡ c.shaped) (words : even ≡ c.even) where
+    abbrev asked : ℕ
+    asked = pick shaped (early_by (is_writer c.state) (write_early (writer_from c.state) c.long even)) 1
 
-    early_is : k ≡ early_by (is_writer c.state) (write_early (writer_from c.state) c.long c.even)
-    early_is = asked ∙ ap₂ early_by (shown ∙ ap is_writer copied) (early ∙ ap₂ (λ (x : Writer) (b : Bool). write_early x c.long b) same words)
+    early_is : c.shaped ≡ true → asked ≡ early_by (is_writer c.state) (write_early (writer_from c.state) c.long c.even)
+    early_is s = pick_true _ _ (fits ∙ s) ∙ ap (λ (b : Bool). early_by (is_writer c.state) (write_early (writer_from c.state) c.long b)) words
 
-    pub away : (k ≡ 0 → ⊥) → c.kept k ≡ called c
-    away h = turned_away c.kept _ c.shaped (is_writer c.state) _ right _ c.by k early_is h
+    pub away : {k : ℕ} → k ≡ asked → (k ≡ 0 → ⊥) → c.kept k ≡ called c
+    away {k} is h = go c.shaped refl
+      where
+        go : (b : Bool) → c.shaped ≡ b → c.kept k ≡ called c
+        go true s = turned_away c.kept _ c.shaped (is_writer c.state) _ s _ c.by k (is ∙ early_is s) h
+        go false s = ap c.kept (is ∙ pick_false _ _ (fits ∙ s)) ∙ wrong s
 
     -- what the call left, x; the image of its state put into what is lent; and its answer
-    pub made : k ≡ 0 → (x : X) {s : List ℕ} {r : ℕ} → x ≡ c.call w → s ≡ writer_bytes (c.next x) → r ≡ c.answer x → c.leaves r s x ≡ called c
-    made h x done put answered =
+    pub made : c.shaped ≡ true → asked ≡ 0 → (x : X) {w : Writer} {s : List ℕ} {r : ℕ} → w ≡ writer_from c.state → x ≡ c.call w → s ≡ writer_bytes (c.next x) → r ≡ c.answer x → c.leaves r s x ≡ called c
+    made right h x same done put answered =
         ap₂ (λ (n : ℕ) (s : List ℕ). c.leaves n s x) answered put
         ∙ ap (λ (y : X). c.leaves (c.answer y) (writer_bytes (c.next y)) y) (done ∙ ap c.call same)
-        ∙ let_through c.kept _ c.shaped (is_writer c.state) _ right _ c.by k early_is h
+        ∙ let_through c.kept _ c.shaped (is_writer c.state) _ right _ c.by asked (early_is right) h
 
 abbrev pub opening_call : List ℕ → Bool → Bool → ℕ → List ℕ → List ℕ → WriterCall Wrote Left
 opening_call state f v number settings line = record {

@@ -14,15 +14,8 @@ pub fn event_answer(e: Event) -> u32
     ensures { result ≡ event_answer e }
 {
     match e {
-        Event::Refused { answer, dropped: _ } => answer as u32,
-        Event::Begun {
-            number: _,
-            jump: _,
-            dropped: _,
-        } => 0,
-        Event::Block { kind: _, length: _ } => 0,
-        Event::Drop { reason: _ } => 0,
-        Event::End => 0,
+        Event::Refused { answer, .. } => u32::from(answer),
+        Event::Begun { .. } | Event::Block { .. } | Event::Drop { .. } | Event::End => 0,
     }
 }
 
@@ -39,7 +32,7 @@ pub fn done_answer(a: Answer) -> u32
     ensures { result ≡ done_answer a }
 {
     match a {
-        Answer::Refused(n) => n as u32,
+        Answer::Refused(n) => u32::from(n),
         Answer::Done => 0,
     }
 }
@@ -48,7 +41,7 @@ pub fn laid_answer(a: Laid) -> u32
     ensures { result ≡ laid_answer a }
 {
     match a {
-        Laid::Refused(n) => n as u32,
+        Laid::Refused(n) => u32::from(n),
         Laid::Finished => 0,
         Laid::Unfinished => UNFINISHED,
     }
@@ -58,18 +51,16 @@ pub fn stop_answer(a: Stop) -> u32
     ensures { result ≡ stop_answer a }
 {
     match a {
-        Stop::Refused(n) => n as u32,
+        Stop::Refused(n) => u32::from(n),
         Stop::All => 0,
         Stop::Unfinished => UNFINISHED,
     }
 }
 
 // A number of 32 bits as one of 16: what is above 65,535 counts as 65,535.
+#[tactic(auto, unfolding(crate::specs::Answers::sixteen))]
 pub fn sixteen(n: u32) -> u16
     ensures { result ≡ sixteen n }
 {
-    if 65535 < n {
-        return 65535;
-    }
-    n as u16
+    n.min(65535) as u16
 }

@@ -10,6 +10,7 @@ use writer::state as writer_state;
 use writer::state::Writer;
 
 // Of a reading call on a line and a room of so many bytes.
+#[tactic(auto, unfolding(bytereader::specs::Bytewise::bytes_fault, reader::specs::Reading::read_fault_in, lists::specs::Tests::pick))]
 pub fn read_early(st: Reader, line: usize, room: usize) -> u8
     ensures { result ≡ bytes_fault st line room }
 {
@@ -19,10 +20,15 @@ pub fn read_early(st: Reader, line: usize, room: usize) -> u8
     if !(check::is_fit(st.system, st.mode, line / 2) & (room / 2 == reader_state::CAPACITY)) {
         return 1;
     }
-    lists::or_else(reader_state::is_impossible(st), 2, 0)
+    if reader_state::is_impossible(st) {
+        2
+    } else {
+        0
+    }
 }
 
 // Of a writer's call on a line of so many bytes; even: what else is lent.
+#[tactic(auto, unfolding(crate::specs::Early::write_early, writer::specs::Batch::batch_fault, lists::specs::Tests::pick))]
 pub fn write_early(w: Writer, line: usize, even: bool) -> u8
     ensures { result ≡ write_early w line even }
 {
@@ -32,15 +38,16 @@ pub fn write_early(w: Writer, line: usize, even: bool) -> u8
     if !check::is_fit(w.system, w.mode, line / 2) {
         return 1;
     }
-    lists::or_else(writer_state::is_impossible(w), 2, 0)
+    if writer_state::is_impossible(w) { 2 } else { 0 }
 }
 
 // 1 comes before an image that no state gives, and that before 2 of the state.
+#[tactic(auto, unfolding(crate::specs::Early::early_by, lists::specs::Tests::pick))]
 pub fn early_by(image: bool, f: u8) -> u32
     ensures { result ≡ early_by image f }
 {
     if f == 1 {
         return 1;
     }
-    if image { f as u32 } else { 2 }
+    if image { u32::from(f) } else { 2 }
 }

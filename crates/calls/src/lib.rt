@@ -4,4 +4,3 @@
 
 pub mod answers; // answers.rt: the numbers that the calls answer
 pub mod early; // early.rt: 1 and 2, asked before a writer's call
-pub mod buffers; // buffers.rt: lent bytes copied

@@ -5,28 +5,14 @@
 ghost use Rattle.std.specs.Prelude.{◌≡◌};
 ghost use Rattle.line.specs.Systems.{system_of};
 ghost use Rattle.line.specs.Fixed.{fixed_of, size_of};
-ghost use Rattle.course.specs.declared.Last.TheVariants.{Number};
 ghost use Rattle.course.specs.Course.{next_number, is_at, place_of, blocks_end, impossible_after};
 ghost use Rattle.course.specs.Looks.{off_by, misplaced_by};
 
 use line::fixed::Fixed;
-use line::settings::Settings;
-
-// The last accepted line number (the writer's: last opened), or none.
-#[derive(Clone, Copy)]
-pub enum Last {
-    Unknown,
-    Number(u16),
-}
-
-// The place in the area of the begun (open) line, or none begun.
-#[derive(Clone, Copy)]
-pub enum Place {
-    Shut,
-    At(usize),
-}
+use line::settings::{Found, Settings};
 
 // The number after x: the number after N is 1.
+#[tactic(auto, unfolding(crate::specs::Course::next_number, lists::specs::Tests::pick))]
 pub fn next_number(lines: u16, x: u16) -> u16
     ensures { result ≡ next_number lines x }
 {
@@ -34,73 +20,61 @@ pub fn next_number(lines: u16, x: u16) -> u16
 }
 
 // A line is begun.
-pub fn is_at(place: Place) -> bool
+pub fn is_at(place: Option<usize>) -> bool
     ensures { result ≡ is_at place }
 {
-    match place {
-        Place::Shut => false,
-        Place::At(_) => true,
-    }
+    matches!(place, Some(_))
 }
 
 // The place, 0 where no line is begun.
-pub fn place_of(place: Place) -> usize
+pub fn place_of(place: Option<usize>) -> usize
     ensures { result ≡ place_of place }
 {
     match place {
-        Place::Shut => 0,
-        Place::At(p) => p,
+        None => 0,
+        Some(p) => p,
     }
 }
 
 // The words of an area in which blocks stand, by the table's row of the block type.
+#[tactic(auto, unfolding(crate::specs::Course::blocks_end, line::specs::Fixed::places_of, line::specs::Fixed::size_of, lists::specs::Tests::pick))]
 fn end_by(payload: usize, block: u8, flag: u8, row: Fixed) -> usize
     requires { row ≡ fixed_of block }
     ensures { result ≡ blocks_end payload block flag }
 {
     if line::fixed::is_variable(block) {
-        return line::layout::area_length(payload, flag);
+        line::layout::area_length(payload, flag)
+    } else {
+        line::fixed::places_in(payload, row) as usize * row.size as usize
     }
-    line::fixed::places_in(payload, row) as usize * row.size as usize
 }
 
 // The words of an area in which blocks stand.
 pub fn blocks_end(payload: usize, block: u8, flag: u8) -> usize
     ensures { result ≡ blocks_end payload block flag }
 {
-    let row = line::fixed::fixed_of(block);
-    end_by(payload, block, flag, row)
+    end_by(payload, block, flag, line::fixed::fixed_of(block))
 }
 
 // Not where a place of that size starts or the last ends.
 fn is_off(size: u16, q: usize) -> bool
     ensures { result ≡ off_by size q }
 {
-    if size == 0 {
-        return true;
-    }
-    q % size as usize != 0
+    size == 0 || q % size as usize != 0
 }
 
 // The place is beyond the end, or in a fixed line not where a place starts or the last ends.
-fn misplaced_by(variable: bool, end: usize, size: u16, place: Place) -> bool
+fn misplaced_by(variable: bool, end: usize, size: u16, place: Option<usize>) -> bool
     ensures { result ≡ misplaced_by variable end size place }
 {
     match place {
-        Place::Shut => false,
-        Place::At(q) => {
-            if end < q {
-                return true;
-            }
-            if variable {
-                return false;
-            }
-            is_off(size, q)
-        }
+        None => false,
+        Some(q) => end < q || (!variable && is_off(size, q)),
     }
 }
 
 // What a call asks of the table of fixed blocks: it is looked up once a call, because a call of a fixed line moves few words.
+// Not an `Option`: end and size are promised of an impossible course too.
 #[derive(Clone, Copy)]
 pub struct Looked {
     pub impossible: bool,
@@ -115,25 +89,23 @@ fn looked_by(system: u8, t: Settings, row: Fixed, impossible: bool) -> Looked
         × (result.end ≡ blocks_end (system_of system).payload t.block t.flag)
         × (result.size ≡ size_of t.block) }
 {
-    let s = line::systems::system_of(system);
-    let end = end_by(s.payload, t.block, t.flag, row);
+    let payload = line::systems::system_of(system).payload;
     Looked {
-        impossible: impossible,
-        end: end,
+        impossible,
+        end: end_by(payload, t.block, t.flag, row),
         size: row.size,
     }
 }
 
 // With a last number. Each test leaves, and variable lines leave before fixed ones, so that a good course is asked each thing once.
-fn look_after(system: u8, x: u16, t: Settings, place: Place, busy: bool) -> Looked
-    ensures { (result.impossible ≡ impossible_after system (Number x) t place busy)
+fn look_after(system: u8, x: u16, t: Settings, place: Option<usize>, busy: bool) -> Looked
+    ensures { (result.impossible ≡ impossible_after system (Some x) t place busy)
         × (result.end ≡ blocks_end (system_of system).payload t.block t.flag)
         × (result.size ≡ size_of t.block) }
 {
     let s = line::systems::system_of(system);
-    let found = line::settings::find_fault(system, t);
-    let row = found.row;
-    if found.fault != 0 {
+    let Found { fault, row } = line::settings::find_fault(system, t);
+    if fault != 0 {
         return looked_by(system, t, row, true);
     }
     if !((1 <= x) & (x <= s.lines)) {
@@ -150,24 +122,29 @@ fn look_after(system: u8, x: u16, t: Settings, place: Place, busy: bool) -> Look
 
 // Whether the course is impossible, where blocks end in its line, and the size of a fixed block; busy: an unfinished block, or an
 // open phase.
-pub fn look(system: u8, last: Last, t: Settings, place: Place, busy: bool) -> Looked
+pub fn look(system: u8, last: Option<u16>, t: Settings, place: Option<usize>, busy: bool) -> Looked
     ensures { (result.impossible ≡ impossible_after system last t place busy)
         × (result.end ≡ blocks_end (system_of system).payload t.block t.flag)
         × (result.size ≡ size_of t.block) }
 {
     match last {
-        Last::Unknown => {
+        None => {
             let row = line::fixed::fixed_of(t.block);
             looked_by(system, t, row, busy | is_at(place))
         }
-        Last::Number(x) => look_after(system, x, t, place, busy),
+        Some(x) => look_after(system, x, t, place, busy),
     }
 }
 
 // The part of the impossible rule that a writer and a reader share; busy: an unfinished block, or an open phase.
-pub fn is_impossible(system: u8, last: Last, t: Settings, place: Place, busy: bool) -> bool
+pub fn is_impossible(
+    system: u8,
+    last: Option<u16>,
+    t: Settings,
+    place: Option<usize>,
+    busy: bool,
+) -> bool
     ensures { result ≡ impossible_after system last t place busy }
 {
-    let x = look(system, last, t, place, busy);
-    x.impossible
+    look(system, last, t, place, busy).impossible
 }

@@ -1,5 +1,6 @@
 -- An addition on an open line: what the ear hears of the line grows by the block that it finishes, if all of that block was kept.
 -- Assumes nothing.
+use Rattle.std.specs.Prelude.{None, Option, Some}
 use Prim.Native.Nat.{ℕ, suc, ◌≤◌}
 use mathlib.Core.Bool.{Bool, true, false}
 use mathlib.Core.List.{List, [], ◌∷◌, ◌++◌, append-nil}
@@ -8,11 +9,8 @@ use native.Mathlib.Omega.{arith}
 use lib.ListN.{length, length-map}
 use Rattle.lists.specs.Tests.{pick}
 use Rattle.lists.proofs.Tests.{true_false, pick_true}
-use Rattle.course.specs.declared.Place.TheVariants.{Shut}
 use Rattle.course.specs.Course.{is_at}
 use Rattle.words.specs.Modes.{word_of}
-use Rattle.writer.specs.declared.state.Rest.{Rest}
-use Rattle.writer.specs.declared.state.Rest.TheVariants.{NoBlock, Part}
 use Rattle.writer.specs.declared.state.Laid.TheVariants.{Finished, Unfinished}
 use Rattle.writer.specs.State.{most, is_part, laid_of}
 use Rattle.writer.specs.Answers.{Added}
@@ -36,6 +34,7 @@ use Rattle.demands.proofs.DeskAdded.{rest_whole}
 use Rattle.demands.proofs.Ahead.{blocks_heard, Matches, ByWords, ByPlaces, Inside, Ahead}
 use Rattle.demands.proofs.StartLine.{matches_idle}
 use Rattle.demands.proofs.PieceRun.{all_one, all_lost, piece_ends, idle_again, piece_silent, matches_on}
+use Rattle.writer.specs.declared.state.Part.{Part}
 
 -- ---- lists
 over : (b : Bool) (z : Block) (l k : List Block) → pick b (z ∷ (l ++ k)) (l ++ k) ≡ pick b (z ∷ l) l ++ k
@@ -62,7 +61,7 @@ one_more keeps bs b = ap blocks_heard (survivors_append keeps bs (b ∷ [])) ∙
 
 -- ---- an addition that was not refused
 -- the line is open still
-still_open : (d : Desk) (kind : ℕ) (vs : List ℕ) → add_fault d.writer (length d.now.words) kind vs ≡ 0 → (adding d.writer d.now.words kind vs).state.place ≡ Shut → ⊥
+still_open : (d : Desk) (kind : ℕ) (vs : List ℕ) → add_fault d.writer (length d.now.words) kind vs ≡ 0 → (adding d.writer d.now.words kind vs).state.place ≡ None → ⊥
 still_open d kind vs ok e = true_false (ap is_at (sym (ap (λ (y : Added). y.state.place) (add_leaves d.writer d.now.words kind vs ok)) ∙ e))
 
 module _ (system mode cap : ℕ) (keeps : ℕ → Bool) (told gone : Bool) (d : Desk) (ear : Ear) (kind : ℕ) (vs : List ℕ)
@@ -81,9 +80,9 @@ module _ (system mode cap : ℕ) (keeps : ℕ → Bool) (told gone : Bool) (d : 
   was_begun : all_on keeps d.pieces ≡ false → 1 ≤ laid_of d.writer.rest
   was_begun e = by d.writer.rest refl
     where
-      by : (r : Rest) → d.writer.rest ≡ r → 1 ≤ laid_of d.writer.rest
-      by NoBlock h = absurd (true_false (sym (ap (all_on keeps) (dk.owes.none_owing h)) ∙ e))
-      by (Part k n j) h = subst (λ (i : ℕ). 1 ≤ i) (sym (ap laid_of h)) (dk.owes.owing k n j h).some
+      by : (r : Option Part) → d.writer.rest ≡ r → 1 ≤ laid_of d.writer.rest
+      by None h = absurd (true_false (sym (ap (all_on keeps) (dk.owes.none_owing h)) ∙ e))
+      by (Some p) h = subst (λ (i : ℕ). 1 ≤ i) (sym (ap laid_of h)) (dk.owes.owing p.kind p.count p.laid h).some
 
   module _ (q : Now) (y : Varies mode d kind vs) (w : ByWords mode cap keeps d q) where
     shaped : Shaped mode kind (values_now d vs)

@@ -1,6 +1,7 @@
 -- Each field of the statement on allowances, cited at an instance that a weaker field would not give. The types are written out in the words of the crates below, so that a
 -- weaker meaning of a name of specs/Allowed.antt is noticed too.
 -- Assumes nothing.
+use Rattle.std.specs.Prelude.{Some, None}
 use Prim.Native.Nat.{ℕ, ◌+◌, ◌*◌, ◌≤◌, ◌<◌}
 use mathlib.Core.Bool.{Bool, true, false}
 use mathlib.Core.List.{List, [], ◌∷◌, ◌++◌, map}
@@ -15,7 +16,6 @@ use Rattle.line.specs.Systems.{system_of, is_system}
 use Rattle.line.specs.Fixed.{places_of, size_of}
 use Rattle.line.specs.Layout.{area_length}
 use Rattle.line.specs.Check.{settings_of, line_fault}
-use Rattle.course.specs.declared.Place.TheVariants.{Shut, At}
 use Rattle.course.specs.Course.{is_at, blocks_end}
 use Rattle.reader.specs.declared.state.Reader.{Reader}
 use Rattle.reader.specs.declared.state.Event.TheVariants.{Refused, Block, End}
@@ -39,12 +39,12 @@ pub first_2 : (st : Reader) (line room : List ℕ) → read_fault st (length lin
 first_2 st line room is = ap (λ (x : Sliced). x.answer) (allowed.refused 0 st line room 2 is (omega arith))
 
 -- `none`: at a line's start, a refused line as well
-pub none_refuses : (st : Reader) (line room : List ℕ) → read_fault st (length line) (length room) ≡ 0 → st.place ≡ Shut → (line_fault st.system st.mode line ≡ 0 → ⊥)
+pub none_refuses : (st : Reader) (line room : List ℕ) → read_fault st (length line) (length room) ≡ 0 → st.place ≡ None → (line_fault st.system st.mode line ≡ 0 → ⊥)
     → within 0 st line room ≡ sliced (record { report = Paused; consumed = 0; state = st }) room
 none_refuses st line room fit at bad = allowed.none st line room fit
 
 -- `opening`: allowance 1 does what `read` does, and costs nothing
-pub opens_by_1 : (st : Reader) (line room : List ℕ) → st.place ≡ Shut
+pub opens_by_1 : (st : Reader) (line room : List ℕ) → st.place ≡ None
     → ((within 1 st line room).answer.report ≡ Told (reading st line room).told.event) × (((within 1 st line room).answer.consumed ≡ 0)
     × (((within 1 st line room).answer.state ≡ (reading st line room).told.state) × ((within 1 st line room).room ≡ (reading st line room).room)))
 opens_by_1 st line room at =
@@ -60,7 +60,7 @@ unit_21 : (t : Settings) → t.block ≡ 0x21 → unit_of t.block ≡ 5
 unfolding unit_of size_of pick
 unit_21 t e = ap unit_of e
 
-pub moves_64 : (st : Reader) (q next : ℕ) (line room : List ℕ) → (within 64 st line room).answer.report ≡ Paused → st.place ≡ At q → (within 64 st line room).answer.state.place ≡ At next
+pub moves_64 : (st : Reader) (q next : ℕ) (line room : List ℕ) → (within 64 st line room).answer.report ≡ Paused → st.place ≡ Some q → (within 64 st line room).answer.state.place ≡ Some next
     → (st.settings.block ≡ 0xC1 → next ≡ q + 64) × (st.settings.block ≡ 0x21 → next ≡ q + 320)
 moves_64 st q next line room p at to =
     let n = allowed.used 64 st line room p in
@@ -76,7 +76,7 @@ end_21 : (st : Reader) → st.system ≡ 0 → st.settings.block ≡ 0x21 → bl
 unfolding blocks_end places_of size_of pick
 end_21 st s b = ap₂ (λ (k n : ℕ). blocks_end (system_of k).payload n st.settings.flag) s b
 
-pub ends_288 : (a : ℕ) (st : Reader) (line room : List ℕ) → st.system ≡ 0 → st.settings.block ≡ 0x21 → st.place ≡ At 0 → (within a st line room).answer.report ≡ Told End
+pub ends_288 : (a : ℕ) (st : Reader) (line room : List ℕ) → st.system ≡ 0 → st.settings.block ≡ 0x21 → st.place ≡ Some 0 → (within a st line room).answer.report ≡ Told End
     → ((within a st line room).answer.consumed ≡ 287) × (288 ≤ a)
 ends_288 a st line room s b at e =
     let n = (within a st line room).answer.consumed in
@@ -126,13 +126,13 @@ count_c1 : (t : Settings) → t.block ≡ 0xC1 → t.flag ≡ 1 → count_in 192
 unfolding count_in area_length pick
 count_c1 t e f = ap₂ (λ (n k : ℕ). count_in 1920 (record { code = t.code; aai = t.aai; destination = t.destination; source = t.source; block = n; flag = k; reserved = t.reserved })) e f
 
-pub pauses_383 : (line al : List ℕ) (st : Reader) (room : List ℕ) (hs : List Heard) (st' : Reader) (room' : List ℕ) → st.place ≡ Shut → st.system ≡ 2 → (settings_of line).block ≡ 0x21
+pub pauses_383 : (line al : List ℕ) (st : Reader) (room : List ℕ) (hs : List Heard) (st' : Reader) (room' : List ℕ) → st.place ≡ None → st.system ≡ 2 → (settings_of line).block ≡ 0x21
     → All (λ (a : ℕ). 1 ≤ a) al → LendsWithin line al st room hs st' room' → length al ≤ length hs + 383
 pauses_383 line al st room hs st' room' at s b some k =
     let c : count_in (system_of st.system).payload (settings_of line) ≡ 383 = ap (λ (i : ℕ). count_in (system_of i).payload (settings_of line)) s ∙ count_21 (settings_of line) b in
     subst (λ (n : ℕ). length al ≤ length hs + n) c (allowed.pauses line al st room hs st' room' at some k)
 
-pub served_1918 : (line al : List ℕ) (st : Reader) (room : List ℕ) (hs : List Heard) (st' : Reader) (room' : List ℕ) → st.place ≡ Shut → st.system ≡ 2 → (settings_of line).block ≡ 0xC1
+pub served_1918 : (line al : List ℕ) (st : Reader) (room : List ℕ) (hs : List Heard) (st' : Reader) (room' : List ℕ) → st.place ≡ None → st.system ≡ 2 → (settings_of line).block ≡ 0xC1
     → (settings_of line).flag ≡ 1 → All (λ (a : ℕ). 1 ≤ a) al → Lends line st room hs st' room' → length hs + 1918 ≤ length al → Served line al st room hs st' room'
 served_1918 line al st room hs st' room' at s b f some k few =
     let c : count_in (system_of st.system).payload (settings_of line) ≡ 1918 = ap (λ (i : ℕ). count_in (system_of i).payload (settings_of line)) s ∙ count_c1 (settings_of line) b f in
@@ -161,7 +161,7 @@ never_2_so a b d line room other lent dropped =
     )
 
 -- `calls`, `longest`: 1,442 calls in system 1, and 1,922 in system 3
-pub within_1442 : (st : Reader) (line room : List ℕ) → st.system ≡ 1 → st.place ≡ Shut → ends_within 1442 st line room ≡ true
+pub within_1442 : (st : Reader) (line room : List ℕ) → st.system ≡ 1 → st.place ≡ None → ends_within 1442 st line room ≡ true
 within_1442 st line room s at = ap (λ (k : ℕ). ends_within ((system_of k).payload + 2) st line room) (sym s) ∙ allowed.calls st line room at
 
 pub exactly_1442 : Longest 1 9
@@ -169,5 +169,5 @@ unfolding is_system is_mode
 exactly_1442 = allowed.longest 1 9 refl refl
 
 pub not_1921 : (x : Longest 3 8)
-    → (ends_within 1921 x.st x.line x.room ≡ false) × ((line_fault 3 8 x.line ≡ 0) × ((impossible x.st ≡ false) × ((x.st.system ≡ 3) × ((x.st.place ≡ Shut) × (length x.room ≡ 16384)))))
+    → (ends_within 1921 x.st x.line x.room ≡ false) × ((line_fault 3 8 x.line ≡ 0) × ((impossible x.st ≡ false) × ((x.st.system ≡ 3) × ((x.st.place ≡ None) × (length x.room ≡ 16384)))))
 not_1921 x = (x.not_before, (x.accepted, (x.possible, (x.of_system, (x.shut, x.long)))))

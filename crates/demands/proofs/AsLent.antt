@@ -1,5 +1,6 @@
 -- Blocks lent unchanged until finished are, as laid, the blocks as lent.
 -- Assumes nothing.
+use Rattle.std.specs.Prelude.{Option, Some, None}
 use Prim.Native.Nat.{ℕ, ◌-◌}
 use mathlib.Core.Bool.{Bool, true}
 use mathlib.Core.List.{List, [], ◌∷◌, ◌++◌, append-nil}
@@ -7,8 +8,6 @@ use mathlib.Core.Logic.{◌⊎◌, inl, inr, ⊎_elim}
 use mathlib.Core.Path.{◌≡◌, refl, sym, ap, ◌∙◌}
 use lib.ListN.{take-append-drop}
 use Rattle.line.specs.declared.settings.Settings.{Settings}
-use Rattle.writer.specs.declared.state.Rest.{Rest}
-use Rattle.writer.specs.declared.state.Rest.TheVariants.{NoBlock, Part}
 use Rattle.writer.specs.declared.state.Answer.{Answer}
 use Rattle.writer.specs.declared.state.Answer.TheVariants.{Refused, Done}
 use Rattle.writer.specs.declared.state.Laid.{Laid}
@@ -24,16 +23,17 @@ use Rattle.writer.specs.Filling.{as_laid}
 use Rattle.writer.proofs.Pieces.{finished_clear}
 use Rattle.demands.specs.Sending.{Call, opens, adds, packs, closes, Complete, Sent, Desk, start, values_now, piece_now, opened_by, added_by, packs_by, closed_by, sends_by, after, sends, sent_by, sent_fresh, blocks_of}
 use Rattle.demands.specs.Lent.{Unchanged, finished_by, opened_with, closed_with, lent_by, lent_fresh}
+use Rattle.writer.specs.declared.state.Part.{Part}
 
 -- ---- the values as laid are those lent: of a new block, and of one lent again unchanged
-pub as_lent : (d : Desk) (vs : List ℕ) → (d.writer.rest ≡ NoBlock) ⊎ (d.values ≡ vs) → values_now d vs ≡ vs
+pub as_lent : (d : Desk) (vs : List ℕ) → (d.writer.rest ≡ None) ⊎ (d.values ≡ vs) → values_now d vs ≡ vs
 as_lent d vs =
-    ⊎_elim (λ e. ap (λ (r : Rest). as_laid (laid_of r) d.values vs) e)
+    ⊎_elim (λ e. ap (λ (r : Option Part). as_laid (laid_of r) d.values vs) e)
     (λ e. ap (λ (l : List ℕ). as_laid (laid_of d.writer.rest) l vs) e ∙ take-append-drop (laid_of d.writer.rest - 6) vs)
 
-whole_or : (r : Rest) → (r ≡ NoBlock) ⊎ (is_part r ≡ true)
-whole_or NoBlock = inl refl
-whole_or (Part k n j) = inr refl
+whole_or : (r : Option Part) → (r ≡ None) ⊎ (is_part r ≡ true)
+whole_or None = inl refl
+whole_or (Some p) = inr refl
 
 -- ---- each call: the blocks finished on the line opened last
 opened_blocks : (a : Answer) (x : Left) (d : Desk) (f v : Bool) (n : ℕ) (t : Settings) → opened_with a d.now.blocks ≡ (opened_by a x d f v n t).now.blocks

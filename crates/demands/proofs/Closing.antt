@@ -1,6 +1,7 @@
 -- A line that is open can be closed: at once, or, where an unfinished block has a word left on it, after one more addition of that block, which
 -- finishes the block or fills the line.
 -- Assumes nothing.
+use Rattle.std.specs.Prelude.{Some, Option, None}
 use Prim.Native.Nat.{ℕ, ◌+◌, ◌-◌, ◌≤◌, ◌<◌, min}
 use mathlib.Core.Bool.{Bool, true, false, ◌&&◌, not}
 use mathlib.Core.List.{List, [], ◌∷◌}
@@ -17,12 +18,9 @@ use Rattle.line.specs.Systems.{system_of}
 use Rattle.line.specs.Fixed.{is_variable, size_of}
 use Rattle.line.specs.Layout.{payload_at}
 use Rattle.line.specs.Check.{fits_length}
-use Rattle.course.specs.declared.Place.TheVariants.{At}
 use Rattle.course.specs.Course.{is_at, place_of}
-use Rattle.writer.specs.declared.state.Rest.{Rest}
-use Rattle.writer.specs.declared.state.Rest.TheVariants.{NoBlock, Part}
 use Rattle.writer.specs.declared.state.Writer.{Writer}
-use Rattle.writer.specs.State.{most, is_part, laid_of, misshapen, impossible, end_in}
+use Rattle.writer.specs.State.{most, is_part, laid_of, misshapen, impossible, end_in, unfinished}
 use Rattle.writer.specs.Answers.{Left, Added}
 use Rattle.writer.specs.Adding.{valued, ill_shaped, is_full, is_other, add_fault, todo, fitting, adding}
 use Rattle.writer.specs.Filling.{piece_of, filled, adds}
@@ -33,6 +31,7 @@ use Rattle.writer.proofs.Stays.{add_possible}
 use Rattle.demands.specs.Writable.{TypeHeld, Closable}
 use Rattle.demands.proofs.DeskCloses.{varied_by}
 use Rattle.demands.proofs.Unrefused.{adds_clear, closes_clear, shape_by}
+use Rattle.writer.specs.declared.state.Part.{Part}
 
 -- a value 0 fits each mode
 zero_fits : (b : Bool) → 0 < pick b 256 512
@@ -46,7 +45,7 @@ zeros_fit mode n = each_filler (λ (v : ℕ). ltb v (values mode)) n 0 (lt-ltb 0
 
 -- what is left behind k words: no block, or no word
 left_none : (b : Bool) (end p k left kind n j : ℕ) → eqb k left ≡ b → p < end → k ≡ min (end - p) left
-    → (is_part (pick b NoBlock (Part kind n j)) && not (is_full end (At (p + k)))) ≡ false
+    → (is_part (pick b None (unfinished kind n j)) && not (is_full end (Some (p + k)))) ≡ false
 unfolding pick
 left_none true end p k left kind n j e h m = refl
 left_none false end p k left kind n j e h m = ap not (le-leb end (p + k) (omega (arith, h, m, eqb-false k left e)))
@@ -63,7 +62,7 @@ module _ (w : Writer) (line : List ℕ) (fit : fits_length w.system w.mode (leng
       }
 
   -- ---- the block lent again, its values all 0: only its type and length are compared
-  module _ (kind n j : ℕ) (r : w.rest ≡ Part kind n j) (small : kind ≤ 0xFF) (space : is_full (end_in w) w.place ≡ false) where
+  module _ (kind n j : ℕ) (r : w.rest ≡ unfinished kind n j) (small : kind ≤ 0xFF) (space : is_full (end_in w) w.place ≡ false) where
     vs : List ℕ
     vs = replicate n 0
 
@@ -88,7 +87,7 @@ module _ (w : Writer) (line : List ℕ) (fit : fits_length w.system w.mode (leng
         (shape_by (is_variable w.settings.block) (is_at w.place) (eqb (length vs + 1) (size_of w.settings.block)) (eqb kind 0) (λ v. absurd (true_false (sym variable ∙ v)))))
 
     same : is_other w.rest kind (length vs) ≡ false
-    same = ap (λ (x : Rest). is_other x kind (length vs)) r ∙ ap not (and_true (eq-eqb kind kind refl) (eq-eqb n (length vs) (sym long)))
+    same = ap (λ (x : Option Part). is_other x kind (length vs)) r ∙ ap not (and_true (eq-eqb kind kind refl) (eq-eqb n (length vs) (sym long)))
 
     clear : add_fault w (length line) kind vs ≡ 0
     unfolding vs
@@ -133,10 +132,10 @@ module _ (w : Writer) (line : List ℕ) (fit : fits_length w.system w.mode (leng
   pub can_be_closed : TypeHeld w.rest → Closable w line
   can_be_closed h = by w.rest refl h
     where
-      room_or : (kind n j : ℕ) → w.rest ≡ Part kind n j → kind ≤ 0xFF → (b : Bool) → is_full (end_in w) w.place ≡ b → Closable w line
-      room_or kind n j r small true e = at_once (ap₂ (λ (y : Rest) (b : Bool). is_part y && not b) r e)
+      room_or : (kind n j : ℕ) → w.rest ≡ unfinished kind n j → kind ≤ 0xFF → (b : Bool) → is_full (end_in w) w.place ≡ b → Closable w line
+      room_or kind n j r small true e = at_once (ap₂ (λ (y : Option Part) (b : Bool). is_part y && not b) r e)
       room_or kind n j r small false e = after_one kind n j r small e
 
-      by : (r : Rest) → w.rest ≡ r → TypeHeld r → Closable w line
-      by NoBlock r small = at_once (ap (λ (y : Rest). is_part y && not (is_full (end_in w) w.place)) r)
-      by (Part kind n j) r small = room_or kind n j r small (is_full (end_in w) w.place) refl
+      by : (r : Option Part) → w.rest ≡ r → TypeHeld r → Closable w line
+      by None r small = at_once (ap (λ (y : Option Part). is_part y && not (is_full (end_in w) w.place)) r)
+      by (Some p) r small = room_or p.kind p.count p.laid r small (is_full (end_in w) w.place) refl

@@ -1,6 +1,7 @@
 -- DEMAND 1, proved: the statement is specs/Demand1.antt. Of each entry: the number that it answers is `lowest_of` of its refusals; the law of
 -- refusals (`answers`) then says which number that is.
 -- Assumes nothing.
+use Rattle.std.specs.Prelude.{Option, Some, None}
 use Prim.Native.Nat.{ℕ, zero, suc, ◌≤◌, ◌<◌}
 use mathlib.Core.Bool.{Bool, true, false, ◌&&◌}
 use mathlib.Core.Logic.{◌⊎◌, inl, inr, ⊎_elim}
@@ -18,8 +19,6 @@ use Rattle.line.specs.Systems.{system_of}
 use Rattle.line.specs.Settings.{settings_faults}
 use Rattle.line.specs.Check.{head_faults, area_faults, payload_faults, faults, line_faults, line_fault, faulty_with, checked_from, checked_of}
 use Rattle.line.proofs.CheckLaws.{check_rising, fault_of_fit, from_three}
-use Rattle.course.specs.declared.Place.{Place}
-use Rattle.course.specs.declared.Place.TheVariants.{Shut, At}
 use Rattle.writer.specs.declared.state.Writer.{Writer}
 use Rattle.writer.specs.Answers.{answer_numbers, laid_numbers, Left, Added}
 use Rattle.writer.specs.Opening.{open_faults, open_fault, opening}
@@ -293,7 +292,7 @@ unfolding read_fault_in
 at_most_2 st line room = two_by _ _
 
 -- a line begun
-later_by_lem : (st : Reader) (q : ℕ) (p : Phase) (met : Met) (x : ℕ) → ServedWith (At x) (get_or (event_numbers (told_by st q p met).event) 0 (pos 0))
+later_by_lem : (st : Reader) (q : ℕ) (p : Phase) (met : Met) (x : ℕ) → ServedWith (Some x) (get_or (event_numbers (told_by st q p met).event) 0 (pos 0))
 later_by_lem st q p Nothing x = inr (inr refl)
 later_by_lem st q p (Whole k n) x = inl refl
 later_by_lem st q p (Lost n) x = inr (inl refl)
@@ -311,21 +310,21 @@ module _ (st : Reader) (line room : List ℕ) where
   unfolding read_fault_in
   number_is = lowest_append (read_faults_in capacity st (length line) (length room)) (where_shut st.place row_faults) (read_rising capacity st (length line) (length room))
 
-  shut_does : read_fault st (length line) (length room) ≡ 0 → st.place ≡ Shut → (n : ℕ) → line_fault st.system st.mode line ≡ n → Outcome st line room n
+  shut_does : read_fault st (length line) (length room) ≡ 0 → st.place ≡ None → (n : ℕ) → line_fault st.system st.mode line ≡ n → Outcome st line room n
   shut_does fit at zero is =
       is_served refl
-      (subst (λ (p : Place). ServedWith p (get_or (event_numbers (reading st line room).told.event) 0 (pos 0))) (sym at)
+      (subst (λ (p : Option ℕ). ServedWith p (get_or (event_numbers (reading st line room).told.event) 0 (pos 0))) (sym at)
       (ap (λ (x : Reply). get_or (event_numbers x.told.event) 0 (pos 0)) (accepts st line room fit at is) ∙ begun_by_lem st _ _))
   shut_does fit at (suc n) is =
       is_late (subst (λ (k : ℕ). 3 ≤ k) is (from_three st.system st.mode line (ready st line room fit).fit (λ z. omega (arith, is, z))))
       (refuses st line room fit at (suc n) is (λ z. omega arith))
 
-  place_does : read_fault st (length line) (length room) ≡ 0 → (p : Place) → st.place ≡ p → Outcome st line room (lowest_of (where_shut p (faults (system_of st.system) st.mode line)))
-  place_does fit Shut at = shut_does fit at (lowest_of row_faults) (fault_of_fit st.system st.mode line (ready st line room fit).fit)
-  place_does fit (At q) at =
+  place_does : read_fault st (length line) (length room) ≡ 0 → (p : Option ℕ) → st.place ≡ p → Outcome st line room (lowest_of (where_shut p (faults (system_of st.system) st.mode line)))
+  place_does fit None at = shut_does fit at (lowest_of row_faults) (fault_of_fit st.system st.mode line (ready st line room fit).fit)
+  place_does fit (Some q) at =
       is_served refl
-      (subst (λ (p : Place). ServedWith p (get_or (event_numbers (reading st line room).told.event) 0 (pos 0))) (sym at)
-      (subst (λ (x : Reply). ServedWith (At q) (get_or (event_numbers x.told.event) 0 (pos 0))) (sym (by_place st line room (At q) fit at))
+      (subst (λ (p : Option ℕ). ServedWith p (get_or (event_numbers (reading st line room).told.event) 0 (pos 0))) (sym at)
+      (subst (λ (x : Reply). ServedWith (Some q) (get_or (event_numbers x.told.event) 0 (pos 0))) (sym (by_place st line room (Some q) fit at))
       (later_by_lem st _ _ (walk_from st q line room).answer.met q)))
 
   does_by : (r : ℕ) → read_fault st (length line) (length room) ≡ r → Outcome st line room (or_next r (lowest_of (where_shut st.place (faults (system_of st.system) st.mode line))))
@@ -355,9 +354,9 @@ module _ (st : Reader) (line room : List ℕ) where
   number : {i j : ℤ} → i ≡ j → nat_abs i ≡ nat_abs j
   number e = ap nat_abs e
 
-  not_served : (p : Place) → ServedWith p (pos 0) → ⊥
-  not_served Shut e = omega (arith, number e)
-  not_served (At q) e = ⊎_elim (λ x. omega (arith, number x)) (λ y. ⊎_elim (λ x. omega (arith, number x)) (λ x. omega (arith, number x)) y) e
+  not_served : (p : Option ℕ) → ServedWith p (pos 0) → ⊥
+  not_served None e = omega (arith, number e)
+  not_served (Some q) e = ⊎_elim (λ x. omega (arith, number x)) (λ y. ⊎_elim (λ x. omega (arith, number x)) (λ x. omega (arith, number x)) y) e
 
   serves_not : (z : ℤ) → z ≡ pos 0 → ServedWith st.place z → ⊥
   serves_not z e s = not_served st.place (subst (ServedWith st.place) e s)
@@ -378,15 +377,15 @@ module _ (st : Reader) (line room : List ℕ) where
   serves n (is_served z s) y = s
 
   -- the numbers of the refusals, by the place
-  all_by : (p : Place) → map (λ (r : Refusal). r.number) (read_faults_in capacity st (length line) (length room) ++ where_shut p (faults (system_of st.system) st.mode line)) ≡ read_answers p
+  all_by : (p : Option ℕ) → map (λ (r : Refusal). r.number) (read_faults_in capacity st (length line) (length room) ++ where_shut p (faults (system_of st.system) st.mode line)) ≡ read_answers p
   unfolding faults head_faults settings_faults payload_faults area_faults
-  all_by Shut = refl
-  all_by (At q) = refl
+  all_by None = refl
+  all_by (Some q) = refl
 
-  rising_by : (p : Place) → rising (read_faults_in capacity st (length line) (length room) ++ where_shut p (faults (system_of st.system) st.mode line)) ≡ true
+  rising_by : (p : Option ℕ) → rising (read_faults_in capacity st (length line) (length room) ++ where_shut p (faults (system_of st.system) st.mode line)) ≡ true
   unfolding faults head_faults settings_faults payload_faults area_faults
-  rising_by Shut = refl
-  rising_by (At q) = refl
+  rising_by None = refl
+  rising_by (Some q) = refl
 
   reads : Numbered (read_refusals st line room) (read_answers st.place) (ReadRefused st line room) (ReadServed st line room)
   reads =

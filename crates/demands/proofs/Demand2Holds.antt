@@ -1,5 +1,6 @@
 -- DEMAND 2, proved: the statement is specs/Demand2.antt.
 -- Assumes nothing.
+use Rattle.std.specs.Prelude.{Option, Some, None}
 use Prim.Native.Nat.{ℕ, suc, ◌-◌, min}
 use mathlib.Core.Bool.{Bool, true, false}
 use mathlib.Core.List.{List, [], ◌∷◌, ◌++◌, map}
@@ -11,9 +12,6 @@ use lib.Seq.{take_all}
 use Rattle.lists.proofs.Tests.{true_false, pick_true, lt_or_le}
 use Rattle.line.specs.Systems.{system_of}
 use Rattle.line.proofs.Lines.{written_again}
-use Rattle.course.specs.declared.Last.{Last}
-use Rattle.course.specs.declared.Last.TheVariants.{Unknown, Number}
-use Rattle.course.specs.declared.Place.TheVariants.{Shut}
 use Rattle.course.specs.Course.{place_of}
 use Rattle.writer.specs.declared.state.Writer.{Writer}
 use Rattle.writer.specs.State.{impossible, end_in, fresh as fresh_writer}
@@ -68,11 +66,11 @@ start_ahead system mode cap keeps told room long = record {
 
 -- a fresh reader lent what remains of a fresh writer's lines
 pub fresh_tells : (system mode : ℕ) (keeps : ℕ → Bool) (told : Bool) (cs : List Call) (fs : List Fate) (room : List ℕ) (hs : List Heard) → length room ≡ capacity → Agrees keeps 0 fs
-    → All (RefusedIfReplaced system mode) fs → length fs ≡ length (sent_fresh system mode cs) → Noticed (system_of system).lines told Unknown false fs (sent_fresh system mode cs)
+    → All (RefusedIfReplaced system mode) fs → length fs ≡ length (sent_fresh system mode cs) → Noticed (system_of system).lines told None false fs (sent_fresh system mode cs)
     → Reads (fresh system mode) room (remain fs (sent_fresh system mode cs)) hs
-    → Tells (system_of system).lines keeps Unknown false fs (sent_fresh system mode cs) hs
+    → Tells (system_of system).lines keeps None false fs (sent_fresh system mode cs) hs
 fresh_tells system mode keeps told cs fs room hs long agrees refusing each noticed r =
-    subst (Tells (system_of system).lines keeps Unknown false fs (sent_fresh system mode cs))
+    subst (Tells (system_of system).lines keeps None false fs (sent_fresh system mode cs))
     (sym (reads_are system mode (fresh system mode) room (remain fs (sent_fresh system mode cs)) hs (fresh_tuned system mode room long) r))
     (follow system mode capacity keeps told cs (start system mode) (start_ok system mode) (all_each (RoomFor capacity) (room_for capacity (omega arith)) cs) fs false (ear_of (fresh system mode) room) agrees refusing each noticed
     (start_ahead system mode capacity keeps told room long))
@@ -112,7 +110,7 @@ module _ (system mode : ℕ) where
   blocks_hold = along system mode true (λ (d : Desk) (cs : List Call) (ss : List Sent). Blocks d → All (HasBlocks mode) ss) (λ d h. tt) blocks_by
 
 -- a writer in any possible state with no line open: its lines are 01's, and the pieces of its blocks, joined, are their words, those laid before among them
-module _ (w : Writer) (us : List ℕ) (possible : impossible w ≡ false) (shut : w.place ≡ Shut) (values : ValuesOf w.mode w.rest us) (cs : List Call) where
+module _ (w : Writer) (us : List ℕ) (possible : impossible w ≡ false) (shut : w.place ≡ None) (values : ValuesOf w.mode w.rest us) (cs : List Call) where
   pub any_lines : All (IsLine w.system) (sent_by (standing w us) cs)
   any_lines = lines_hold w.system w.mode cs (standing w us) (standing_ok w us possible values shut)
 
@@ -143,9 +141,9 @@ kept_refusing : (system mode : ℕ) (ss : List Sent) → All (RefusedIfReplaced 
 kept_refusing system mode [] = tt
 kept_refusing system mode (s ∷ ss) = (tt, kept_refusing system mode ss)
 
-kept_noticed : (lines : ℕ) (before : Last) (ss : List Sent) → Noticed lines false before false (all_kept ss) ss
+kept_noticed : (lines : ℕ) (before : Option ℕ) (ss : List Sent) → Noticed lines false before false (all_kept ss) ss
 kept_noticed lines before [] = tt
-kept_noticed lines before (s ∷ ss) = (((λ g. absurd (true_false (sym g))), λ t g k. absurd (true_false (sym t))), kept_noticed lines (Number s.number) ss)
+kept_noticed lines before (s ∷ ss) = (((λ g. absurd (true_false (sym g))), λ t g k. absurd (true_false (sym t))), kept_noticed lines (Some s.number) ss)
 
 kept_blocks : (bs : List Complete) → blocks_heard (survivors each_kept bs) ≡ map (λ (b : Complete). is_block b.block) bs
 kept_blocks [] = refl
@@ -163,12 +161,12 @@ tail_fates : List Fate → List Fate
 tail_fates [] = []
 tail_fates (f ∷ fs) = fs
 
-given_back_lem : (lines : ℕ) (before : Last) (gone : Bool) (fs : List Fate) (ss : List Sent) (hs : List Heard) → Tells lines each_kept before gone fs ss hs → gone ≡ false → fs ≡ all_kept ss
+given_back_lem : (lines : ℕ) (before : Option ℕ) (gone : Bool) (fs : List Fate) (ss : List Sent) (hs : List Heard) → Tells lines each_kept before gone fs ss hs → gone ≡ false → fs ≡ all_kept ss
     → hs ≡ given_back lines before ss
 unfolding given_back head_kept tail_fates
 given_back_lem lines before gone fs _ _ nothing_more g e = refl
 given_back_lem lines _ gone _ _ _ (one_kept {before = before} {fs = fs} {s = s} {ss = ss} {hs = hs} dropped none_dropped more) g e =
-    let rest = given_back_lem lines (Number s.number) false fs ss hs more refl (ap tail_fates e) in
+    let rest = given_back_lem lines (Some s.number) false fs ss hs more refl (ap tail_fates e) in
     ap₂ (λ (b : Bool) (l : List Heard). is_begun s.number (jump_from lines before s.number) b s.settings ∷ (l ++ (is_end ∷ hs))) (none_dropped g) (kept_blocks s.blocks)
     ∙ ap (λ (l : List Heard). is_begun s.number (jump_from lines before s.number) false s.settings ∷ (map (λ (b : Complete). is_block b.block) s.blocks ++ (is_end ∷ l))) rest
 given_back_lem lines before gone _ _ _ (one_removed more) g e = absurd (true_false (sym (ap head_kept e)))
@@ -195,9 +193,9 @@ demand_2 = record {
   not_told = refuses;
   heard = λ system mode cs room long hs r.
       let ss = sent_fresh system mode cs in
-      given_back_lem (system_of system).lines Unknown false (all_kept ss) ss hs
+      given_back_lem (system_of system).lines None false (all_kept ss) ss hs
       (fresh_tells system mode each_kept false cs (all_kept ss) room hs long (kept_agrees 0 ss) (kept_refusing system mode ss) (kept_long ss)
-      (kept_noticed (system_of system).lines Unknown ss)
+      (kept_noticed (system_of system).lines None ss)
       (subst (λ (ls : List (List ℕ)). Reads (fresh system mode) room ls hs) (sym (kept_remain ss)) r))
       refl refl;
   readable = λ system mode cs room. readable (fresh system mode) room (map (λ (s : Sent). s.words) (sent_fresh system mode cs)) refl;

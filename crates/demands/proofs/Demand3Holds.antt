@@ -1,5 +1,6 @@
 -- DEMAND 3, proved: the statement is specs/Demand3.antt.
 -- Assumes nothing.
+use Rattle.std.specs.Prelude.{Option, Some, None}
 use Prim.Native.Nat.{ℕ, suc, ◌+◌}
 use mathlib.Core.Bool.{Bool, true, false}
 use mathlib.Core.List.{List, [], ◌∷◌, ◌++◌}
@@ -8,8 +9,6 @@ use native.Mathlib.Nat.{add-zero, add-suc, suc-add, zero-add}
 use lib.ListN.{length}
 use Rattle.lists.proofs.Tests.{true_false, pick_false}
 use Rattle.line.specs.Systems.{system_of}
-use Rattle.course.specs.declared.Last.{Last}
-use Rattle.course.specs.declared.Last.TheVariants.{Unknown, Number}
 use Rattle.course.specs.Course.{is_at}
 use Rattle.writer.specs.Answers.{Left}
 use Rattle.writer.proofs.Keeps.{close_clear, close_leaves}
@@ -75,18 +74,18 @@ handed_blocks : (bs : List Block) (hs : List Heard) → handed_out (blocks_heard
 handed_blocks [] hs = refl
 handed_blocks (b ∷ bs) hs = ap (λ (l : List Block). b ∷ l) (handed_blocks bs hs)
 
-handed_by : (lines : ℕ) (keeps : ℕ → Bool) (i : ℕ) (before : Last) (gone : Bool) (fs : List Fate) (ss : List Sent) (hs : List Heard) → Tells lines keeps before gone fs ss hs
+handed_by : (lines : ℕ) (keeps : ℕ → Bool) (i : ℕ) (before : Option ℕ) (gone : Bool) (fs : List Fate) (ss : List Sent) (hs : List Heard) → Tells lines keeps before gone fs ss hs
     → Agrees keeps i fs → AllLost keeps i ss → handed_out hs ≡ survivors keeps (blocks_of ss)
 handed_by lines keeps i before gone fs _ _ nothing_more agrees lost = refl
 handed_by lines keeps i before gone _ _ _ (one_kept {fs = fs} {s = s} {ss = ss} {hs = hs} dropped none_dropped more) agrees lost =
     handed_blocks (survivors keeps s.blocks) (is_end ∷ hs)
-    ∙ ap (λ (l : List Block). survivors keeps s.blocks ++ l) (handed_by lines keeps (suc i) (Number s.number) false fs ss hs more agrees.1 lost.1)
+    ∙ ap (λ (l : List Block). survivors keeps s.blocks ++ l) (handed_by lines keeps (suc i) (Some s.number) false fs ss hs more agrees.1 lost.1)
     ∙ sym (survivors_append keeps s.blocks (blocks_of ss))
 handed_by lines keeps i before gone _ _ _ (one_removed {fs = fs} {s = s} {ss = ss} {hs = hs} more) agrees lost =
     handed_by lines keeps (suc i) before true fs ss hs more agrees.1 lost.1
     ∙ sym (survivors_append keeps s.blocks (blocks_of ss) ∙ ap (λ (l : List Block). l ++ survivors keeps (blocks_of ss)) (lost.0 agrees.0))
 handed_by lines keeps i before gone _ _ _ (one_replaced {fs = fs} {s = s} {ss = ss} {hs = hs} k dropped least more) agrees lost =
-    handed_by lines keeps (suc i) Unknown false fs ss hs more agrees.1 lost.1
+    handed_by lines keeps (suc i) None false fs ss hs more agrees.1 lost.1
     ∙ sym (survivors_append keeps s.blocks (blocks_of ss) ∙ ap (λ (l : List Block). l ++ survivors keeps (blocks_of ss)) (lost.0 agrees.0))
 
 -- ---- neither 1 nor 2
@@ -94,12 +93,12 @@ from3_blocks : (bs : List Block) (hs : List Heard) → All IsFrom3 hs → All Is
 from3_blocks [] hs h = h
 from3_blocks (b ∷ bs) hs h = (tt, from3_blocks bs hs h)
 
-served_by : (lines : ℕ) (keeps : ℕ → Bool) (before : Last) (gone : Bool) (fs : List Fate) (ss : List Sent) (hs : List Heard) → Tells lines keeps before gone fs ss hs → All IsFrom3 hs
+served_by : (lines : ℕ) (keeps : ℕ → Bool) (before : Option ℕ) (gone : Bool) (fs : List Fate) (ss : List Sent) (hs : List Heard) → Tells lines keeps before gone fs ss hs → All IsFrom3 hs
 served_by lines keeps before gone fs _ _ nothing_more = tt
 served_by lines keeps before gone _ _ _ (one_kept {fs = fs} {s = s} {ss = ss} {hs = hs} dropped none_dropped more) =
-    (tt, from3_blocks (survivors keeps s.blocks) (is_end ∷ hs) (tt, served_by lines keeps (Number s.number) false fs ss hs more))
+    (tt, from3_blocks (survivors keeps s.blocks) (is_end ∷ hs) (tt, served_by lines keeps (Some s.number) false fs ss hs more))
 served_by lines keeps before gone _ _ _ (one_removed {fs = fs} {ss = ss} {hs = hs} more) = served_by lines keeps before true fs ss hs more
-served_by lines keeps before gone _ _ _ (one_replaced {fs = fs} {ss = ss} {hs = hs} k dropped least more) = (least, served_by lines keeps Unknown false fs ss hs more)
+served_by lines keeps before gone _ _ _ (one_replaced {fs = fs} {ss = ss} {hs = hs} k dropped least more) = (least, served_by lines keeps None false fs ss hs more)
 
 -- ---- the fates by number
 agrees_by : (keeps : ℕ → Bool) (i : ℕ) (fs : List Fate) → ((j : ℕ) → keeps (i + j) ≡ kept_at fs j) → Agrees keeps i fs
@@ -111,18 +110,18 @@ module _ (system mode : ℕ) (cs : List Call) (fs : List Fate) (x : Transmission
   fated : Agrees (kept_at fs) 0 fs
   fated = agrees_by (kept_at fs) 0 fs (λ j. ap (kept_at fs) (zero-add j))
 
-  tells : Tells (system_of system).lines (kept_at fs) Unknown false fs (sent_fresh system mode cs) hs
+  tells : Tells (system_of system).lines (kept_at fs) None false fs (sent_fresh system mode cs) hs
   tells =
       fresh_tells system mode (kept_at fs) true cs fs room hs long fated x.refusing x.each_line
       (noticed (system_of system).lines true fs (sent_fresh system mode cs) x.runs x.numbers) r
 
   handed_out_lem : handed_out hs ≡ survivors (kept_at fs) (blocks_of (sent_fresh system mode cs))
   handed_out_lem =
-      handed_by (system_of system).lines (kept_at fs) 0 Unknown false fs (sent_fresh system mode cs) hs tells fated
+      handed_by (system_of system).lines (kept_at fs) 0 None false fs (sent_fresh system mode cs) hs tells fated
       (all_lines_lost system mode (kept_at fs) cs (start system mode) (start_ok system mode) (shut_start system mode (kept_at fs)))
 
   all_served : All IsFrom3 hs
-  all_served = served_by (system_of system).lines (kept_at fs) Unknown false fs (sent_fresh system mode cs) hs tells
+  all_served = served_by (system_of system).lines (kept_at fs) None false fs (sent_fresh system mode cs) hs tells
 
 pub demand_3 : Demand3
 demand_3 = record {

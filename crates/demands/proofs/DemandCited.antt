@@ -1,6 +1,7 @@
 -- Each field of the demands and of the running CRC, cited at an instance that a weaker field would not give. The types are written out: what the fields say by names of
 -- specs/Demand2.antt and specs/Demand3.antt stands here in the words of the crates below, so that a weaker meaning of a name is noticed too.
 -- Assumes nothing.
+use Rattle.std.specs.Prelude.{Option, Some, None}
 use Prim.Native.Nat.{ℕ, ◌+◌, ◌-◌, ◌≤◌, ◌<◌}
 use mathlib.Core.Bool.{Bool, true, false, ◌&&◌, not}
 use mathlib.Core.List.{List, [], ◌∷◌, ◌++◌, map}
@@ -22,19 +23,13 @@ use Rattle.line.specs.Fixed.{is_variable, size_of, places_of}
 use Rattle.line.specs.Header.{header_words}
 use Rattle.line.specs.Layout.{payload_at, area_length, line_words, area_of}
 use Rattle.line.specs.Check.{number_of, settings_of, fits_length, line_fault}
-use Rattle.course.specs.declared.Last.{Last}
-use Rattle.course.specs.declared.Last.TheVariants.{Unknown, Number}
-use Rattle.course.specs.declared.Place.{Place}
-use Rattle.course.specs.declared.Place.TheVariants.{Shut, At}
 use Rattle.course.specs.Course.{is_at, place_of, next_number, blocks_end}
 use Rattle.machine.specs.declared.phase.Phase.{Phase}
 use Rattle.machine.specs.declared.phase.Phase.TheVariants.{Idle}
 use Rattle.machine.specs.Phases.{is_busy}
 use Rattle.writer.specs.declared.state.Writer.{Writer}
-use Rattle.writer.specs.declared.state.Rest.{Rest}
-use Rattle.writer.specs.declared.state.Rest.TheVariants.{NoBlock, Part}
 use Rattle.writer.specs.declared.state.Answer.TheVariants.{Done}
-use Rattle.writer.specs.State.{laid_of, end_in}
+use Rattle.writer.specs.State.{laid_of, end_in, unfinished}
 use Rattle.writer.specs.Answers.{Left}
 use Rattle.writer.specs.Block.{words_in}
 use Rattle.writer.specs.Opening.{opening}
@@ -47,7 +42,6 @@ use Rattle.writer.proofs.Keeps.{open_clear, open_leaves}
 use Rattle.writer.proofs.Refusals.{can_open}
 use Rattle.writer.proofs.Stays.{open_possible}
 use Rattle.writer.proofs.Writing.{opened_line}
-use Rattle.reader.specs.declared.jump.Jump.TheVariants.{Unknown as NotKnown}
 use Rattle.reader.specs.declared.state.Reader.{Reader}
 use Rattle.reader.specs.declared.state.Event.TheVariants.{Refused, Begun}
 use Rattle.reader.specs.State.{fresh}
@@ -67,6 +61,7 @@ use Rattle.demands.proofs.Unrefused.{fits_by, open_long}
 use Rattle.demands.proofs.Demand2Holds.{demand_2}
 use Rattle.demands.proofs.Demand3Holds.{demand_3}
 use Rattle.demands.proofs.RunningHolds.{running}
+use Rattle.writer.specs.declared.state.Part.{Part}
 
 -- ---- demand 2
 -- `lines`: the first line of system 1 in 8-bit mode, and the second of system 3 in 9-bit mode
@@ -139,7 +134,7 @@ closed_by_lem w f v n t lent done c =
       written = record { open_done = done; last = c.last; full = c.full; calls = c.calls; close_done = c.done; state_is = refl; line_is = refl };
     }
 
-pub closed_again : (w : Writer) (f v : Bool) (n : ℕ) (t : Settings) (lent : List ℕ) → Held t → (kind many j : ℕ) → w.rest ≡ Part kind many j → kind ≤ 255
+pub closed_again : (w : Writer) (f v : Bool) (n : ℕ) (t : Settings) (lent : List ℕ) → Held t → (kind many j : ℕ) → w.rest ≡ unfinished kind many j → kind ≤ 255
     → (opening w f v n t lent).answer ≡ Done → Closed w f v n t lent
 closed_again w f v n t lent held kind many j r small done =
     let clear = open_clear w f v n t lent done in
@@ -184,58 +179,58 @@ placed_1_9 cs r s ss a b bs p q e eb ep is flag =
     }
 
 -- `laid`: of a block of which 5 words were laid, from the sixth on
-pub laid_sixth : (w : Writer) (line : List ℕ) (kind n : ℕ) (vs : List ℕ) → add_fault w (length line) kind vs ≡ 0 → w.rest ≡ Part kind n 5 → w.place ≡ At 3
+pub laid_sixth : (w : Writer) (line : List ℕ) (kind n : ℕ) (vs : List ℕ) → add_fault w (length line) kind vs ≡ 0 → w.rest ≡ unfinished kind n 5 → w.place ≡ Some 3
     → piece_of w line kind vs ≡ take (end_in w - 3) (drop 5 (words_in w.settings.block w.mode kind vs))
 laid_sixth w line kind n vs clear r p =
     demand_2.laid w line kind vs clear
     ∙ ap₂ (λ (i j : ℕ). take (end_in w - i) (drop j (words_in w.settings.block w.mode kind vs))) (ap place_of p) (ap laid_of r)
 
 -- `accepted`: with a last number, both ways
-pub accepted_after_7 : (st : Reader) (line room : List ℕ) → read_fault st (length line) (length room) ≡ 0 → st.place ≡ Shut → st.last ≡ Number 7
+pub accepted_after_7 : (st : Reader) (line room : List ℕ) → read_fault st (length line) (length room) ≡ 0 → st.place ≡ None → st.last ≡ Some 7
     → line_fault st.system st.mode line ≡ 0 → is_begun_event (reading st line room).told.event ≡ true
 accepted_after_7 st line room fit shut last clean = demand_2.accepted st line room fit shut ∙ ap (λ (n : ℕ). eqb n 0) clean
 
-pub refused_after_7 : (st : Reader) (line room : List ℕ) → read_fault st (length line) (length room) ≡ 0 → st.place ≡ Shut → st.last ≡ Number 7
+pub refused_after_7 : (st : Reader) (line room : List ℕ) → read_fault st (length line) (length room) ≡ 0 → st.place ≡ None → st.last ≡ Some 7
     → line_fault st.system st.mode line ≡ 16 → is_begun_event (reading st line room).told.event ≡ false
 refused_after_7 st line room fit shut last bad = demand_2.accepted st line room fit shut ∙ ap (λ (n : ℕ). eqb n 0) bad
 
 -- `told`: with a last number and no open block
-pub told_after_7 : (st : Reader) (line room : List ℕ) → read_fault st (length line) (length room) ≡ 0 → st.place ≡ Shut → st.last ≡ Number 7 → st.phase ≡ Idle
+pub told_after_7 : (st : Reader) (line room : List ℕ) → read_fault st (length line) (length room) ≡ 0 → st.place ≡ None → st.last ≡ Some 7 → st.phase ≡ Idle
     → line_fault st.system st.mode line ≡ 0
-    → ((reading st line room).told.event ≡ Begun (number_of line) (jump_from (system_of st.system).lines (Number 7) (number_of line)) false)
-    × (((reading st line room).told.state.last ≡ Number (number_of line)) × (((reading st line room).told.state.settings ≡ settings_of line) × ((reading st line room).room ≡ room)))
+    → ((reading st line room).told.event ≡ Begun (number_of line) (jump_from (system_of st.system).lines (Some 7) (number_of line)) false)
+    × (((reading st line room).told.state.last ≡ Some (number_of line)) × (((reading st line room).told.state.settings ≡ settings_of line) × ((reading st line room).room ≡ room)))
 unfolding begun
 told_after_7 st line room fit shut last idle clean =
     let e = (demand_2.told st line room fit shut clean).0 in
     let n = number_of line in (
       ap (λ (x : Answered). x.told.event) e
-          ∙ ap₂ (λ (l : Last) (p : Phase). Begun n (jump_from (system_of st.system).lines l n) (is_busy p && not (goes_on st n (settings_of line)))) last idle,
+          ∙ ap₂ (λ (l : Option ℕ) (p : Phase). Begun n (jump_from (system_of st.system).lines l n) (is_busy p && not (goes_on st n (settings_of line)))) last idle,
       (ap (λ (x : Answered). x.told.state.last) e, (ap (λ (x : Answered). x.told.state.settings) e, ap (λ (x : Answered). x.room) e)),
     )
 
 -- and behind a refused line, with AAI 1 kept
-pub told_after_none : (st : Reader) (line room : List ℕ) → read_fault st (length line) (length room) ≡ 0 → st.place ≡ Shut → st.last ≡ Unknown → st.phase ≡ Idle
+pub told_after_none : (st : Reader) (line room : List ℕ) → read_fault st (length line) (length room) ≡ 0 → st.place ≡ None → st.last ≡ None → st.phase ≡ Idle
     → st.settings.aai ≡ 1 → line_fault st.system st.mode line ≡ 0
-    → ((reading st line room).told.event ≡ Begun (number_of line) NotKnown false)
-    × (((reading st line room).told.state.last ≡ Number (number_of line)) × ((reading st line room).told.state.settings ≡ settings_of line))
+    → ((reading st line room).told.event ≡ Begun (number_of line) None false)
+    × (((reading st line room).told.state.last ≡ Some (number_of line)) × ((reading st line room).told.state.settings ≡ settings_of line))
 unfolding begun
 told_after_none st line room fit shut last idle kept clean =
     let e = (demand_2.told st line room fit shut clean).0 in
     let n = number_of line in (
       ap (λ (x : Answered). x.told.event) e
-          ∙ ap₂ (λ (l : Last) (p : Phase). Begun n (jump_from (system_of st.system).lines l n) (is_busy p && not (goes_on st n (settings_of line)))) last idle,
+          ∙ ap₂ (λ (l : Option ℕ) (p : Phase). Begun n (jump_from (system_of st.system).lines l n) (is_busy p && not (goes_on st n (settings_of line)))) last idle,
       (ap (λ (x : Answered). x.told.state.last) e, ap (λ (x : Answered). x.told.state.settings) e),
     )
 
-pub told_header : (st : Reader) (line room : List ℕ) → read_fault st (length line) (length room) ≡ 0 → st.place ≡ Shut → line_fault st.system st.mode line ≡ 0
+pub told_header : (st : Reader) (line room : List ℕ) → read_fault st (length line) (length room) ≡ 0 → st.place ≡ None → line_fault st.system st.mode line ≡ 0
     → part 4 53 line ≡ header_words (number_of line) (settings_of line)
 told_header st line room fit shut clean = (demand_2.told st line room fit shut clean).1
 
 -- `not_told`: with 16, and an open block, which is dropped
-pub not_told_16 : (st : Reader) (line room : List ℕ) → read_fault st (length line) (length room) ≡ 0 → st.place ≡ Shut → is_busy st.phase ≡ true
+pub not_told_16 : (st : Reader) (line room : List ℕ) → read_fault st (length line) (length room) ≡ 0 → st.place ≡ None → is_busy st.phase ≡ true
     → line_fault st.system st.mode line ≡ 16
     → ((reading st line room).told.event ≡ Refused 16 true)
-    × (((reading st line room).told.state ≡ record { system = st.system; mode = st.mode; last = Unknown; settings = st.settings; place = Shut; phase = Idle })
+    × (((reading st line room).told.state ≡ record { system = st.system; mode = st.mode; last = None; settings = st.settings; place = None; phase = Idle })
     × ((reading st line room).room ≡ room))
 not_told_16 st line room fit shut busy bad =
     let e = demand_2.not_told st line room fit shut 16 bad (λ z. omega arith) in (
@@ -248,17 +243,17 @@ abbrev pub Told2 : ℕ → ℕ → Type 0
 Told2 system mode =
     (cs : List Call) (r s : Sent) → sent_fresh system mode cs ≡ r ∷ s ∷ [] → (room : List ℕ) → length room ≡ 16384 → (hs : List Heard)
     → Reads (fresh system mode) room (map (λ (x : Sent). x.words) (sent_fresh system mode cs)) hs
-    → hs ≡ is_begun r.number NotKnown false r.settings ∷ (map (λ (b : Complete). is_block b.block) r.blocks
-    ++ (is_end ∷ is_begun s.number (jump_from 625 (Number r.number) s.number) false s.settings ∷ (map (λ (b : Complete). is_block b.block) s.blocks
+    → hs ≡ is_begun r.number None false r.settings ∷ (map (λ (b : Complete). is_block b.block) r.blocks
+    ++ (is_end ∷ is_begun s.number (jump_from 625 (Some r.number) s.number) false s.settings ∷ (map (λ (b : Complete). is_block b.block) s.blocks
     ++ (is_end ∷ []))))
 
 pub heard_1_8 : Told2 1 8
 unfolding given_back
-heard_1_8 cs r s e room long hs x = demand_2.heard 1 8 cs room long hs x ∙ ap (given_back 625 Unknown) e
+heard_1_8 cs r s e room long hs x = demand_2.heard 1 8 cs room long hs x ∙ ap (given_back 625 None) e
 
 pub heard_3_9 : Told2 3 9
 unfolding given_back
-heard_3_9 cs r s e room long hs x = demand_2.heard 3 9 cs room long hs x ∙ ap (given_back 625 Unknown) e
+heard_3_9 cs r s e room long hs x = demand_2.heard 3 9 cs room long hs x ∙ ap (given_back 625 None) e
 
 -- `readable`
 pub readable_1_9 : (cs : List Call) (room : List ℕ) → Readable (fresh 1 9) room (map (λ (s : Sent). s.words) (sent_fresh 1 9 cs))
@@ -276,25 +271,25 @@ rewritten_2_8 = demand_2.rewritten 2 8
 
 -- ---- the running CRC
 -- `kept`: behind two calls, with five words laid on a line of system 3 in 9-bit mode; and with no line open, in system 1
-pub kept_3_9 : (a b : Call) → let d = after (after (start 3 9) a) b in d.writer.place ≡ At 5 → d.writer.crc ≡ crc_of 262143 (take 5 (drop 384 d.now.words))
+pub kept_3_9 : (a b : Call) → let d = after (after (start 3 9) a) b in d.writer.place ≡ Some 5 → d.writer.crc ≡ crc_of 262143 (take 5 (drop 384 d.now.words))
 unfolding desk_after
 kept_3_9 a b at =
     let d = after (after (start 3 9) a) b in
-    running.kept 3 9 (a ∷ b ∷ []) ∙ ap (λ (p : Place). crc_of 262143 (take (place_of p) (drop 384 d.now.words))) at
+    running.kept 3 9 (a ∷ b ∷ []) ∙ ap (λ (p : Option ℕ). crc_of 262143 (take (place_of p) (drop 384 d.now.words))) at
 
-pub kept_none : (a b : Call) → let d = after (after (start 1 8) a) b in d.writer.place ≡ Shut → d.writer.crc ≡ 262143
+pub kept_none : (a b : Call) → let d = after (after (start 1 8) a) b in d.writer.place ≡ None → d.writer.crc ≡ 262143
 unfolding desk_after
 kept_none a b shut =
     let d = after (after (start 1 8) a) b in
-    running.kept 1 8 (a ∷ b ∷ []) ∙ ap (λ (p : Place). crc_of 262143 (take (place_of p) (drop 288 d.now.words))) shut ∙ crc_none 262143 (lit< tt)
+    running.kept 1 8 (a ∷ b ∷ []) ∙ ap (λ (p : Option ℕ). crc_of 262143 (take (place_of p) (drop 288 d.now.words))) shut ∙ crc_none 262143 (lit< tt)
 
 -- `any_line`: with flag 00h, whatever number was stored before
 pub any_kept : (w : Writer) (f v : Bool) (n : ℕ) (t : Settings) (lent : List ℕ) (w' : Writer) (line : List ℕ) (ps : List (List ℕ)) (qs : List Packet) → Held t → t.flag ≡ 0
-    → (opening w f v n t lent).answer ≡ Done → Filling (opening w f v n t lent).state (opening w f v n t lent).line w' line ps qs → w.system ≡ 2 → w'.place ≡ At 7
+    → (opening w f v n t lent).answer ≡ Done → Filling (opening w f v n t lent).state (opening w f v n t lent).line w' line ps qs → w.system ≡ 2 → w'.place ≡ Some 7
     → w'.crc ≡ crc_of 262143 (take 7 (drop 368 line))
 any_kept w f v n t lent w' line ps qs held flag done calls system at =
     running.any_line w f v n t lent w' line ps qs held done calls
-    ∙ ap₂ (λ (s : ℕ) (p : Place). crc_of 262143 (part (payload_at (system_of s)) (place_of p) line)) system at
+    ∙ ap₂ (λ (s : ℕ) (p : Option ℕ). crc_of 262143 (part (payload_at (system_of s)) (place_of p) line)) system at
 
 -- `listed_back`: of the second line of a 625-line system, whatever words are lent for the list
 pub listed_3_9 : (cs : List Call) (r s : Sent) (ss : List Sent) (out : List ℕ) → sent_fresh 3 9 cs ≡ r ∷ s ∷ ss → length out ≡ 323
@@ -335,11 +330,11 @@ pub needed_525 : ((cs : List Call) (fs : List Fate) → Transmission 0 8 526 cs 
 needed_525 = demand_3.needed
 
 -- `lent`: of a new block, whatever is held; and of a block of which 20 words were laid, lent unchanged
-pub lent_new : (d : Desk) (vs : List ℕ) → d.writer.rest ≡ NoBlock → as_laid (laid_of d.writer.rest) d.values vs ≡ vs
+pub lent_new : (d : Desk) (vs : List ℕ) → d.writer.rest ≡ None → as_laid (laid_of d.writer.rest) d.values vs ≡ vs
 lent_new d vs e = demand_3.lent d vs (inl e)
 
-pub lent_again : (d : Desk) (kind n : ℕ) (vs : List ℕ) → d.writer.rest ≡ Part kind n 20 → d.values ≡ vs → take 14 d.values ++ drop 14 vs ≡ vs
-lent_again d kind n vs r e = sym (ap (λ (x : Rest). as_laid (laid_of x) d.values vs) r) ∙ demand_3.lent d vs (inr e)
+pub lent_again : (d : Desk) (kind n : ℕ) (vs : List ℕ) → d.writer.rest ≡ unfinished kind n 20 → d.values ≡ vs → take 14 d.values ++ drop 14 vs ≡ vs
+lent_again d kind n vs r e = sym (ap (λ (x : Option Part). as_laid (laid_of x) d.values vs) r) ∙ demand_3.lent d vs (inr e)
 
 -- `as_demanded`: of system 3 in 9-bit mode, from the demand's conditions and no more
 pub as_demanded_3_9 : (t : Settings) (cs : List Call) (fs : List Fate) → t.block ≡ 0xC1 → All (λ (s : Sent). s.settings ≡ t) (sent_fresh 3 9 cs)
@@ -353,7 +348,7 @@ pub any_readable : (room : List ℕ) (lines : List (List ℕ)) → Readable (fre
 any_readable = demand_3.readable 3 9
 
 -- `ends`: a line of system 1 with flag 01h, whatever the state holds but a begun line
-pub ends_1440 : (st : Reader) (line room : List ℕ) → st.place ≡ Shut → st.system ≡ 1 → (settings_of line).flag ≡ 1
+pub ends_1440 : (st : Reader) (line room : List ℕ) → st.place ≡ None → st.system ≡ 1 → (settings_of line).flag ≡ 1
     → (hs : List Heard) (st' : Reader) (room' : List ℕ) → Lends line st room hs st' room' → length hs ≤ 1440
 unfolding area_length pick
 ends_1440 st line room shut system flag hs st' room' x =

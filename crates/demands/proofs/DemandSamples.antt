@@ -1,5 +1,6 @@
 -- Instances of demands 2 and 3, computed: what two courses of calls send, and what every fresh reader hears of it by the theorems.
 -- Assumes nothing.
+use Rattle.std.specs.Prelude.{Some, None}
 use Prim.Native.Nat.{ℕ, ◌<◌}
 use mathlib.Core.Bool.{true, false}
 use mathlib.Core.List.{List, [], ◌∷◌, map}
@@ -21,7 +22,6 @@ use Rattle.line.specs.Settings.{Held, settings_fault, settings_faults, same_sett
 use Rattle.line.specs.Header.{number_words, settings_bytes, settings_words, summed_words, header_words}
 use Rattle.line.specs.Layout.{area_length, end_words, framed}
 use Rattle.line.specs.Check.{fits_length, timed, head_faults, faults, line_fault}
-use Rattle.course.specs.declared.Last.TheVariants.{Unknown}
 use Rattle.course.specs.Course.{next_number, blocks_end, off_grid}
 use Rattle.writer.specs.State.{impossible}
 use Rattle.writer.specs.Block.{words_in}
@@ -32,7 +32,6 @@ use Rattle.writer.specs.Packing.{packing}
 use Rattle.writer.specs.Closing.{close_fault, sealed, closing}
 use Rattle.writer.specs.Batch.{entries_in, entries_of, lay_all, batch_fault, batching}
 use Rattle.writer.specs.Filling.{piece_of}
-use Rattle.reader.specs.declared.jump.Jump.TheVariants.{Unknown as NotKnown, Known}
 use Rattle.reader.specs.State.{capacity, fresh}
 use Rattle.reader.specs.Jump.{folded}
 use Rattle.demands.specs.All.{All}
@@ -128,10 +127,10 @@ two_blocks = refl
 
 abbrev pub two_heard : List Heard
 two_heard =
-    is_begun 20 NotKnown false variable ∷ is_block (block 1 (0 ∷ 255 ∷ 1 ∷ [])) ∷ is_end
-    ∷ is_begun 21 (Known (pos 0)) false fixed ∷ is_block (block 7 (1 ∷ 2 ∷ 3 ∷ 4 ∷ [])) ∷ is_end ∷ []
+    is_begun 20 None false variable ∷ is_block (block 1 (0 ∷ 255 ∷ 1 ∷ [])) ∷ is_end
+    ∷ is_begun 21 (Some (pos 0)) false fixed ∷ is_block (block 7 (1 ∷ 2 ∷ 3 ∷ 4 ∷ [])) ∷ is_end ∷ []
 
-two_given : given_back 525 Unknown (sent_fresh 0 8 two_lines) ≡ two_heard
+two_given : given_back 525 None (sent_fresh 0 8 two_lines) ≡ two_heard
 unfolding sent two_lines given_back folded
 two_given = refl
 
@@ -156,13 +155,13 @@ pub list_spelled : spelled_fresh 0 8 by_list ≡ opens_20 ∷ adds 1 (0 ∷ 255 
 unfolding sent by_list entries_in entries_of lay_all batch_fault batching singly batch_calls done_by spelled
 list_spelled = refl
 
-list_given : given_back 525 Unknown (sent_fresh 0 8 (spelled_fresh 0 8 by_list)) ≡ is_begun 20 NotKnown false variable ∷ is_block (block 1 (0 ∷ 255 ∷ 1 ∷ [])) ∷ is_end ∷ []
+list_given : given_back 525 None (sent_fresh 0 8 (spelled_fresh 0 8 by_list)) ≡ is_begun 20 None false variable ∷ is_block (block 1 (0 ∷ 255 ∷ 1 ∷ [])) ∷ is_end ∷ []
 unfolding sent by_list entries_in entries_of lay_all batch_fault batching singly batch_calls done_by spelled given_back folded
 list_given = refl
 
 -- what every fresh reader hears of its line
 pub list_heard : (room : List ℕ) → length room ≡ capacity → (hs : List Heard) → Reads (fresh 0 8) room (lines_fresh 0 8 by_list) hs
-    → hs ≡ is_begun 20 NotKnown false variable ∷ is_block (block 1 (0 ∷ 255 ∷ 1 ∷ [])) ∷ is_end ∷ []
+    → hs ≡ is_begun 20 None false variable ∷ is_block (block 1 (0 ∷ 255 ∷ 1 ∷ [])) ∷ is_end ∷ []
 list_heard room long hs r = batches.heard 0 8 by_list room long hs r ∙ list_given
 
 -- ---- demand 3: system 0, 9 bits, variable lines of flag 01h: lines 523, 524, 525, 1 and 2. No line is full, because the CRC of each word

@@ -1,5 +1,6 @@
 -- The desk after an accepted addition holds what it held.
 -- Assumes nothing.
+use Rattle.std.specs.Prelude.{Option, Some, None}
 use mathlib.Core.Path.{◌≡◌, refl, sym, ap, ◌∙◌, subst}
 use mathlib.Core.Bool.{false}
 use mathlib.Core.List.{List, [], ◌∷◌, ◌++◌, append-nil}
@@ -8,10 +9,8 @@ use lib.ListN.{length}
 use borrow.Author.Tests.{eq-eqb}
 use Rattle.lists.proofs.Tests.{true_false, pick_true}
 use Rattle.line.specs.Fixed.{is_variable, size_of}
-use Rattle.writer.specs.declared.state.Rest.{Rest}
-use Rattle.writer.specs.declared.state.Rest.TheVariants.{NoBlock, Part}
 use Rattle.writer.specs.declared.state.Laid.TheVariants.{Finished, Unfinished}
-use Rattle.writer.specs.State.{is_part, laid_of}
+use Rattle.writer.specs.State.{is_part, laid_of, unfinished}
 use Rattle.writer.specs.Answers.{Added}
 use Rattle.writer.specs.Adding.{add_fault, todo, fitting, lay, adding}
 use Rattle.packets.specs.Packet.{packed}
@@ -26,15 +25,16 @@ use Rattle.demands.proofs.AllLaws.{all_more}
 use Rattle.demands.proofs.DeskOk.{OpenNow, Owing, Owes, DeskOk}
 use Rattle.demands.proofs.DeskCalls.{joined_append, laid_desk}
 use Rattle.demands.proofs.DeskAdds.{now_open, lent_now, all_now, words_now, goes_now, adds_say}
+use Rattle.writer.specs.declared.state.Part.{Part}
 
 -- ---- an unfinished block is one: its type, how many values it has, and how many words are laid
-abbrev kind_of : Rest → ℕ
-kind_of NoBlock = 0
-kind_of (Part k n j) = k
+abbrev kind_of : Option Part → ℕ
+kind_of None = 0
+kind_of (Some p) = p.kind
 
-abbrev values_of : Rest → ℕ
-values_of NoBlock = 0
-values_of (Part k n j) = n
+abbrev values_of : Option Part → ℕ
+values_of None = 0
+values_of (Some p) = p.count
 
 -- ---- what is owed, from any state and whatever words the line has
 module _ (mode : ℕ) (d : Desk) (kind : ℕ) (vs : List ℕ) (ow : Owes mode d) (clear : add_fault d.writer (length d.now.words) kind vs ≡ 0) where
@@ -48,7 +48,7 @@ module _ (mode : ℕ) (d : Desk) (kind : ℕ) (vs : List ℕ) (ow : Owes mode d)
   mode_stays = ap (λ (y : Added). y.state.mode) leaves ∙ ow.of_mode
 
   -- finished: no block is left
-  pub rest_whole : (adding d.writer d.now.words kind vs).answer ≡ Finished → (adding d.writer d.now.words kind vs).state.rest ≡ NoBlock
+  pub rest_whole : (adding d.writer d.now.words kind vs).answer ≡ Finished → (adding d.writer d.now.words kind vs).state.rest ≡ None
   rest_whole e = ap (λ (y : Added). y.state.rest) leaves ∙ pick_true _ _ (eq-eqb _ _ (all_now mode d kind vs ow clear e))
 
   pub finished_owes : (adding d.writer d.now.words kind vs).answer ≡ Finished
@@ -73,11 +73,11 @@ module _ (mode : ℕ) (d : Desk) (kind : ℕ) (vs : List ℕ) (ow : Owes mode d)
       }
 
   owing_as : (adding d.writer d.now.words kind vs).answer ≡ Unfinished → (c n j : ℕ)
-      → (adding d.writer d.now.words kind vs).state.rest ≡ Part c n j
+      → (adding d.writer d.now.words kind vs).state.rest ≡ unfinished c n j
       → Owing mode (added_by Unfinished (adding d.writer d.now.words kind vs) d kind vs) c n j
   owing_as e c n j r =
       let desk = added_by Unfinished (adding d.writer d.now.words kind vs) d kind vs in
-      let same : Part kind (length vs) (laid_of d.writer.rest + k) ≡ Part c n j = sym (rest_left d.writer d.now.words kind vs clear e) ∙ r in
+      let same : unfinished kind (length vs) (laid_of d.writer.rest + k) ≡ unfinished c n j = sym (rest_left d.writer d.now.words kind vs clear e) ∙ r in
       subst (λ (i : ℕ). Owing mode desk c n i) (ap laid_of same)
       (subst (λ (m : ℕ). Owing mode desk c m (laid_of d.writer.rest + k)) (ap values_of same)
       (subst (λ (h : ℕ). Owing mode desk h (length vs) (laid_of d.writer.rest + k)) (ap kind_of same) (owing_now e)))

@@ -1,5 +1,6 @@
 -- What an accepted addition says of the desk: in a variable line some words more of a block, in a fixed line a whole place.
 -- Assumes nothing.
+use Rattle.std.specs.Prelude.{Option, Some, None}
 use mathlib.Core.Path.{◌≡◌, refl, sym, ap, ap₂, ◌∙◌}
 use mathlib.Core.Bool.{Bool, true, false, ◌&&◌, ◌||◌, not}
 use mathlib.Core.List.{List, [], ◌∷◌, ◌++◌, append-nil}
@@ -14,10 +15,7 @@ use Rattle.lists.proofs.Lists.{each_append, each_take, each_drop}
 use Rattle.words.specs.Modes.{values}
 use Rattle.line.specs.declared.settings.Settings.{Settings}
 use Rattle.line.specs.Fixed.{is_variable, size_of}
-use Rattle.course.specs.declared.Place.{Place}
 use Rattle.course.specs.Course.{is_at}
-use Rattle.writer.specs.declared.state.Rest.{Rest}
-use Rattle.writer.specs.declared.state.Rest.TheVariants.{NoBlock, Part}
 use Rattle.writer.specs.declared.state.Laid.TheVariants.{Finished, Unfinished}
 use Rattle.writer.specs.State.{most, laid_of}
 use Rattle.writer.specs.Block.{block_words, fixed_words, words_in}
@@ -31,6 +29,7 @@ use Rattle.demands.specs.Sending.{Desk, values_now, piece_now, joined_pieces}
 use Rattle.demands.proofs.DeskOk.{OpenNow, Owes, DeskOk}
 use Rattle.demands.proofs.Outcomes.{Varies, Fills, Adds}
 use Rattle.demands.proofs.DeskCalls.{joined_pieces_append}
+use Rattle.writer.specs.declared.state.Part.{Part}
 
 -- ---- the values as laid, j words before and the others now, against those lent now
 pub record Lent (mode kind j : ℕ) (laid values vs : List ℕ) : Type 0 where
@@ -45,26 +44,26 @@ lent_fits mode i us vs eu ev =
     let f : ℕ → Bool = λ (x : ℕ). ltb x (values mode) in
     each_append f (take i us) (drop i vs) (each_take f i us eu) (each_drop f i vs ev)
 
-lent_by : (mode : ℕ) (d : Desk) (kind : ℕ) (vs : List ℕ) (r : Rest) → Owes mode d → valued mode vs ≡ true → d.writer.rest ≡ r
+lent_by : (mode : ℕ) (d : Desk) (kind : ℕ) (vs : List ℕ) (r : Option Part) → Owes mode d → valued mode vs ≡ true → d.writer.rest ≡ r
     → is_other r kind (length vs) ≡ false → Lent mode kind (laid_of r) (joined_pieces d.pieces) d.values vs
-lent_by mode d kind vs NoBlock ow fit e same = record { long = refl; fits = fit; before = ap joined_pieces (ow.none_owing e); behind = refl }
-lent_by mode d kind vs (Part k n j) ow fit e same =
-    let o = ow.owing k n j e in
-    let b = both_true (eqb k kind) (eqb n (length vs)) (not-false _ same) in
-    let is : n ≡ length vs = eqb-true n (length vs) b.1 in
+lent_by mode d kind vs None ow fit e same = record { long = refl; fits = fit; before = ap joined_pieces (ow.none_owing e); behind = refl }
+lent_by mode d kind vs (Some p) ow fit e same =
+    let o = ow.owing p.kind p.count p.laid e in
+    let b = both_true (eqb p.kind kind) (eqb p.count (length vs)) (not-false _ same) in
+    let is : p.count ≡ length vs = eqb-true p.count (length vs) b.1 in
     let ev : length d.values ≡ length vs = o.long ∙ is in
-    let short : j ≤ length vs + 6 = omega (arith, o.short, is) in
+    let short : p.laid ≤ length vs + 6 = omega (arith, o.short, is) in
     record {
-      long = as_long mode kind j (length vs) d.values vs short ev refl;
-      fits = lent_fits mode (j - 6) d.values vs o.values_fit fit;
+      long = as_long mode kind p.laid (length vs) d.values vs short ev refl;
+      fits = lent_fits mode (p.laid - 6) d.values vs o.values_fit fit;
       before =
-          o.words ∙ ap (λ (m : ℕ). take j (block_words mode m d.values)) (eqb-true k kind b.0)
-          ∙ sym (as_before mode kind j (length vs) d.values vs short ev refl);
-      behind = as_behind mode kind j (length vs) d.values vs short ev refl;
+          o.words ∙ ap (λ (m : ℕ). take p.laid (block_words mode m d.values)) (eqb-true p.kind kind b.0)
+          ∙ sym (as_before mode kind p.laid (length vs) d.values vs short ev refl);
+      behind = as_behind mode kind p.laid (length vs) d.values vs short ev refl;
     }
 
 -- ---- 18 in a fixed line
-shape_fixed : (p : Place) (block kind n : ℕ) → is_at p ≡ true → is_variable block ≡ false → ill_shaped p block kind n ≡ false
+shape_fixed : (p : Option ℕ) (block kind n : ℕ) → is_at p ≡ true → is_variable block ≡ false → ill_shaped p block kind n ≡ false
     → (n + 1 ≡ size_of block) × (1 ≤ kind)
 unfolding ill_shaped
 shape_fixed p block kind n o v e =
@@ -137,14 +136,14 @@ module _ (mode : ℕ) (d : Desk) (kind : ℕ) (vs : List ℕ) (ow : Owes mode d)
 
   -- ---- a fixed line
   module _ (v : is_variable d.writer.settings.block ≡ false) where
-    none_laid : d.writer.rest ≡ NoBlock
+    none_laid : d.writer.rest ≡ None
     none_laid = fixed_whole d.writer d.now.words kind vs clear v
 
     pub none_before : d.pieces ≡ []
     none_before = ow.none_owing none_laid
 
     pub values_are : values_now d vs ≡ vs
-    values_are = ap (λ (r : Rest). as_laid (laid_of r) d.values vs) none_laid
+    values_are = ap (λ (r : Option Part). as_laid (laid_of r) d.values vs) none_laid
 
     pub piece_fixed : piece_of d.writer d.now.words kind vs ≡ fixed_words mode kind vs
     piece_fixed = (fixed_once d.writer d.now.words kind vs clear v).1 ∙ ap (λ (m : ℕ). fixed_words m kind vs) ow.of_mode

@@ -1,5 +1,6 @@
 -- What a call leaves of the desk, by its answer: a refused call leaves all of it.
 -- Assumes nothing.
+use Rattle.std.specs.Prelude.{Some, None, Option}
 use mathlib.Core.Path.{◌≡◌, refl, sym, ap, ap₂, ◌∙◌, subst}
 use mathlib.Core.Bool.{Bool, true, false}
 use mathlib.Core.List.{List, [], ◌∷◌, ◌++◌, append_assoc}
@@ -11,10 +12,7 @@ use Rattle.lists.proofs.Tests.{true_false}
 use Rattle.line.specs.declared.settings.Settings.{Settings}
 use Rattle.line.specs.Settings.{Held}
 use Rattle.line.specs.Fixed.{is_variable}
-use Rattle.course.specs.declared.Place.TheVariants.{Shut, At}
 use Rattle.course.specs.Course.{is_at}
-use Rattle.writer.specs.declared.state.Rest.{Rest}
-use Rattle.writer.specs.declared.state.Rest.TheVariants.{NoBlock, Part}
 use Rattle.writer.specs.declared.state.Writer.{Writer}
 use Rattle.writer.specs.declared.state.Answer.{Answer}
 use Rattle.writer.specs.declared.state.Answer.TheVariants.{Refused, Done}
@@ -32,6 +30,7 @@ use Rattle.packets.specs.Packet.{Packet}
 use Rattle.writer.proofs.Packs.{pack_keeps}
 use Rattle.demands.specs.Sending.{opens, adds, packs, closes, with_packets, packs_by, Piece, Complete, Sent, Desk, opened_by, with, piece_now, added_by, closed_by, after, joined_pieces}
 use Rattle.demands.proofs.DeskOk.{Owes, DeskOk}
+use Rattle.writer.specs.declared.state.Part.{Part}
 
 -- ---- joined
 pub joined_pieces_append : (ps qs : List Piece) → joined_pieces (ps ++ qs) ≡ joined_pieces ps ++ joined_pieces qs
@@ -44,7 +43,7 @@ joined_append [] qs = refl
 joined_append (p ∷ ps) qs = ap (λ (l : List ℕ). p ++ l) (joined_append ps qs) ∙ sym (append_assoc p (joined ps) (joined qs))
 
 -- ---- a line is open or not
-pub shut_at : (p : ℕ) → Shut ≡ At p → ⊥
+pub shut_at : (p : ℕ) → None ≡ Some p → ⊥
 shut_at p e = true_false (sym (ap is_at e))
 
 -- ---- opening
@@ -140,16 +139,16 @@ by_own system mode d P ok p = subst (λ (s : ℕ). P s mode) ok.of_system (subst
 pub none_left : (system mode : ℕ) (d : Desk) → DeskOk system mode d → is_part d.writer.rest ≡ false → d.pieces ≡ []
 none_left system mode d ok e = by d.writer.rest refl
   where
-    by : (r : Rest) → d.writer.rest ≡ r → d.pieces ≡ []
-    by NoBlock h = ok.owes.none_owing h
-    by (Part k n j) h = absurd (true_false (sym (ap is_part h) ∙ e))
+    by : (r : Option Part) → d.writer.rest ≡ r → d.pieces ≡ []
+    by None h = ok.owes.none_owing h
+    by (Some p) h = absurd (true_false (sym (ap is_part h) ∙ e))
 
 pub fixed_none : (system mode : ℕ) (d : Desk) → DeskOk system mode d → is_variable d.writer.settings.block ≡ false → d.pieces ≡ []
 fixed_none system mode d ok v = by d.writer.rest refl
   where
-    by : (r : Rest) → d.writer.rest ≡ r → d.pieces ≡ []
-    by NoBlock h = ok.owes.none_owing h
-    by (Part k n j) h = absurd (true_false (sym (ok.owes.owing k n j h).variable ∙ v))
+    by : (r : Option Part) → d.writer.rest ≡ r → d.pieces ≡ []
+    by None h = ok.owes.none_owing h
+    by (Some p) h = absurd (true_false (sym (ok.owes.owing p.kind p.count p.laid h).variable ∙ v))
 
 -- what is owed stays where the mode and the unfinished block do, and the block type with it; whatever becomes of the line
 pub owes_stays : (mode : ℕ) (d : Desk) (w : Writer) (s : Sent) (c : ℕ) → w.mode ≡ d.writer.mode → w.rest ≡ d.writer.rest

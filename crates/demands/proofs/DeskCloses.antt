@@ -1,5 +1,6 @@
 -- A line closed: what an accepted closing says, and that the desk holds what it held.
 -- Assumes nothing.
+use Rattle.std.specs.Prelude.{Option, Some, None}
 use mathlib.Core.Path.{◌≡◌, sym, ap, ap₂, ◌∙◌, subst}
 use mathlib.Core.Bool.{Bool, true, false, ◌&&◌, not}
 use mathlib.Core.List.{List, [], ◌∷◌}
@@ -17,8 +18,6 @@ use Rattle.line.specs.Systems.{system_of, is_system}
 use Rattle.line.proofs.SystemLaws.{sound}
 use Rattle.line.specs.Fixed.{is_variable, size_of, places_of}
 use Rattle.line.specs.Layout.{area_length}
-use Rattle.course.specs.declared.Place.{Place}
-use Rattle.course.specs.declared.Place.TheVariants.{Shut, At}
 use Rattle.course.specs.Course.{is_at, place_of, blocks_end, misplaced}
 use Rattle.course.proofs.CourseLaws.{grid_some}
 use Rattle.writer.specs.declared.state.Answer.TheVariants.{Done}
@@ -48,10 +47,10 @@ unfolding area_length
 area_some system flag known = area_by (system_of system).payload (eqb flag 1) (sound system known).some
 
 -- ---- what 20 lets pass: an unfinished block where no word is left
-filled_by : (end : ℕ) (place : Place) (part : Bool) → (part && not (is_full end place)) ≡ false → part ≡ true → is_at place ≡ true → end ≤ place_of place
+filled_by : (end : ℕ) (place : Option ℕ) (part : Bool) → (part && not (is_full end place)) ≡ false → part ≡ true → is_at place ≡ true → end ≤ place_of place
 filled_by end place false e p at = absurd (true_false (sym p))
-filled_by end Shut true e p at = absurd (true_false (sym at))
-filled_by end (At q) true e p at = leb-true end q (not-false _ e)
+filled_by end None true e p at = absurd (true_false (sym at))
+filled_by end (Some q) true e p at = leb-true end q (not-false _ e)
 
 pub varied_by : (part variable : Bool) → (part && not variable) ≡ false → part ≡ true → variable ≡ true
 varied_by true variable e p = not-false variable e
@@ -74,7 +73,7 @@ module _ (system mode : ℕ) (d : Desk) (ok : DeskOk system mode d) (done : (clo
   finds = can_close d.writer d.now.words (close_clear d.writer d.now.words done)
 
   leaves : closing d.writer d.now.words
-      ≡ left Done (moved d.writer Shut d.writer.rest crc_start)
+      ≡ left Done (moved d.writer None d.writer.rest crc_start)
       (sealed (system_of d.writer.system) d.writer.settings.flag (place_of d.writer.place) d.writer.crc d.now.words)
   leaves = close_leaves d.writer d.now.words (close_clear d.writer d.now.words done)
 
@@ -99,12 +98,12 @@ module _ (system mode : ℕ) (d : Desk) (ok : DeskOk system mode d) (done : (clo
       let full = filled_by (end_in d.writer) d.writer.place (is_part d.writer.rest) finds.none_left part finds.begun in
       omega (arith, full, place_is, end_is, end_variable (system_of system).payload t.block t.flag v, now_open.is_open.within)
 
-  placed_now : misplaced (system_of system).payload t.block t.flag (At (length (joined d.now.pieces))) ≡ false
+  placed_now : misplaced (system_of system).payload t.block t.flag (Some (length (joined d.now.pieces))) ≡ false
   placed_now =
       let o = now_open.is_open in
       sym
       (ap₂ (λ (s : ℕ) (u : Settings). misplaced (system_of s).payload u.block u.flag d.writer.place) o.of_system o.of_settings
-      ∙ ap (λ (p : Place). misplaced (system_of system).payload t.block t.flag p) o.of_place)
+      ∙ ap (λ (p : Option ℕ). misplaced (system_of system).payload t.block t.flag p) o.of_place)
       ∙ at_closing.course.placed
 
   few : is_variable t.block ≡ false → length d.now.pieces ≤ places_of (system_of system).payload t.block

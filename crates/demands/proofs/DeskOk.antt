@@ -1,5 +1,6 @@
 -- What holds of a writer's desk between any two calls.
 -- Assumes nothing.
+use Rattle.std.specs.Prelude.{Some, None}
 use Prim.Native.Nat.{ℕ, ◌+◌, ◌≤◌}
 use mathlib.Core.Bool.{true, false}
 use mathlib.Core.List.{List, []}
@@ -11,12 +12,10 @@ use Rattle.line.specs.Settings.{Held, settings_fault}
 use Rattle.line.specs.Fixed.{is_variable, size_of}
 use Rattle.line.proofs.SystemLaws.{Sound}
 use Rattle.words.specs.Modes.{is_mode}
-use Rattle.course.specs.declared.Last.TheVariants.{Number}
 use Rattle.course.specs.Course.{is_at}
-use Rattle.writer.specs.declared.state.Rest.TheVariants.{NoBlock, Part}
 use Rattle.packets.specs.Packet.{packed}
 use Rattle.packets.proofs.ListLaws.{AllSound}
-use Rattle.writer.specs.State.{impossible}
+use Rattle.writer.specs.State.{impossible, unfinished}
 use Rattle.writer.specs.Adding.{valued}
 use Rattle.writer.specs.Block.{block_words}
 use Rattle.writer.specs.Filling.{joined}
@@ -42,7 +41,7 @@ pub record Openable (system mode n : ℕ) (t : Settings) : Type 0 where
 pub record OpenNow (system mode : ℕ) (d : Desk) : Type 0 where
   pub is_open : Open system mode d.now.f d.now.v d.now.number d.now.settings (packed d.now.packets) (joined d.now.pieces) d.writer d.now.words
   pub openable : Openable system mode d.now.number d.now.settings
-  pub last_is : d.writer.last ≡ Number d.now.number
+  pub last_is : d.writer.last ≡ Some d.now.number
   pub sound : AllSound d.now.packets
   -- a fixed line has whole places
   pub placed : is_variable d.now.settings.block ≡ false → AllLong (size_of d.now.settings.block) d.now.pieces
@@ -59,8 +58,8 @@ pub record Owing (mode : ℕ) (d : Desk) (kind n j : ℕ) : Type 0 where
 -- what is owed: nothing, or an unfinished block. Nothing is asked of a line.
 pub record Owes (mode : ℕ) (d : Desk) : Type 0 where
   pub of_mode : d.writer.mode ≡ mode
-  pub none_owing : d.writer.rest ≡ NoBlock → d.pieces ≡ []
-  pub owing : (kind n j : ℕ) → d.writer.rest ≡ Part kind n j → Owing mode d kind n j
+  pub none_owing : d.writer.rest ≡ None → d.pieces ≡ []
+  pub owing : (kind n j : ℕ) → d.writer.rest ≡ unfinished kind n j → Owing mode d kind n j
 
 pub record DeskOk (system mode : ℕ) (d : Desk) : Type 0 where
   pub of_system : d.writer.system ≡ system

@@ -1,5 +1,6 @@
 -- A line opened: what an accepted opening says, and that the desk holds what it held.
 -- Assumes nothing.
+use Rattle.std.specs.Prelude.{Option, Some, None}
 use mathlib.Core.Path.{◌≡◌, refl, ap, ◌∙◌, subst}
 use mathlib.Core.Bool.{Bool, false}
 use mathlib.Core.List.{List}
@@ -9,8 +10,6 @@ use Rattle.lists.proofs.Tests.{true_false}
 use Rattle.line.specs.declared.settings.Settings.{Settings}
 use Rattle.line.specs.Settings.{Held}
 use Rattle.line.proofs.SettingsLaws.{same_block}
-use Rattle.course.specs.declared.Place.{Place}
-use Rattle.course.specs.declared.Place.TheVariants.{Shut, At}
 use Rattle.course.specs.Course.{is_at}
 use Rattle.writer.specs.declared.state.Answer.TheVariants.{Done}
 use Rattle.writer.specs.State.{open_state}
@@ -26,9 +25,9 @@ use Rattle.demands.proofs.Outcomes.{Opens}
 use Rattle.demands.proofs.DeskCalls.{own, by_own, owes_stays}
 
 -- ---- what 20 lets pass
-is_shut : (p : Place) → is_at p ≡ false → p ≡ Shut
-is_shut Shut e = refl
-is_shut (At q) e = absurd (true_false e)
+is_shut : (p : Option ℕ) → is_at p ≡ false → p ≡ None
+is_shut None e = refl
+is_shut (Some q) e = absurd (true_false e)
 
 module _ (d : Desk) (f v : Bool) (n : ℕ) (t : Settings) (lent : List ℕ) (done : (opening d.writer f v n t lent).answer ≡ Done) where
   finds : CanOpen d.writer n t (length lent)

@@ -1,6 +1,7 @@
 -- An ear: what a line does to a listener between two lines, apart from the calls that do it. A line is the listener's own, or another's, or it is
 -- refused.
 -- Assumes nothing.
+use Rattle.std.specs.Prelude.{Option, Some, None}
 use Prim.Native.Nat.{ℕ, zero, suc}
 use mathlib.Core.Bool.{Bool, true, false, ◌&&◌, not}
 use mathlib.Core.List.{List, [], ◌∷◌, ◌++◌, map}
@@ -8,9 +9,6 @@ use Rattle.lists.specs.Tests.{pick}
 use Rattle.line.specs.declared.settings.Settings.{Settings}
 use Rattle.line.specs.Systems.{system_of}
 use Rattle.line.specs.Check.{number_of, settings_of, fits, line_fault}
-use Rattle.course.specs.declared.Last.{Last}
-use Rattle.course.specs.declared.Last.TheVariants.{Unknown, Number}
-use Rattle.course.specs.declared.Place.TheVariants.{Shut}
 use Rattle.machine.specs.declared.phase.Phase.{Phase}
 use Rattle.machine.specs.declared.phase.Phase.TheVariants.{Idle}
 use Rattle.reader.specs.declared.state.Reader.{Reader}
@@ -23,7 +21,7 @@ use Rattle.demands.proofs.LineRun.{block_part, area_out, area_to}
 
 -- a listener between two lines
 pub record Ear : Type 0 where
-  pub last : Last
+  pub last : Option ℕ
   pub settings : Settings
   pub phase : Phase
   pub room : List ℕ
@@ -38,7 +36,7 @@ pub data Input : Type 0 where
 
 -- ---- an open block stays open: on an own line by the reader's rule, on another's where the jump is 0
 abbrev pub as_reader : ℕ → ℕ → Ear → Reader
-as_reader system mode e = record { system = system; mode = mode; last = e.last; settings = e.settings; place = Shut; phase = e.phase }
+as_reader system mode e = record { system = system; mode = mode; last = e.last; settings = e.settings; place = None; phase = e.phase }
 
 abbrev pub goes_on_in : ℕ → ℕ → Ear → ℕ → Settings → Bool
 goes_on_in system mode e n t = goes_on (as_reader system mode e) n t
@@ -69,10 +67,10 @@ heard_of_input system mode e unfit = is_refused 1 false ∷ []
 abbrev pub ear_after : ℕ → ℕ → Ear → Input → Ear
 ear_after system mode e (own n t ws) =
     let x = area_to (system_of system).payload mode t (start_now system mode e n t) ws in
-    record { last = Number n; settings = t; phase = x.phase; room = x.room }
+    record { last = Some n; settings = t; phase = x.phase; room = x.room }
 ear_after system mode e (other n) =
-    record { last = Number n; settings = e.settings; phase = pick (stays_open system mode e (other n)) e.phase Idle; room = e.room }
-ear_after system mode e (refusal k) = record { last = Unknown; settings = e.settings; phase = Idle; room = e.room }
+    record { last = Some n; settings = e.settings; phase = pick (stays_open system mode e (other n)) e.phase Idle; room = e.room }
+ear_after system mode e (refusal k) = record { last = None; settings = e.settings; phase = Idle; room = e.room }
 ear_after system mode e unfit = e
 
 -- ---- lines one after another

@@ -1,6 +1,7 @@
 -- The bridge from reading calls to the ear: a reader lent lines, each until its end or refusal is reported, hears what the ear hears of them, and stands
 -- where the ear stands.
 -- Assumes nothing.
+use Rattle.std.specs.Prelude.{None}
 use Prim.Native.Nat.{ℕ, zero, suc}
 use mathlib.Core.Bool.{Bool, true, false, ◌&&◌, not}
 use mathlib.Core.List.{List, ◌++◌}
@@ -10,7 +11,6 @@ use lib.Dec.{eqb}
 use lib.ListN.{length}
 use Rattle.lists.proofs.Tests.{pick_true, pick_false}
 use Rattle.line.specs.Check.{fits, line_fault}
-use Rattle.course.specs.declared.Place.TheVariants.{Shut}
 use Rattle.reader.specs.declared.state.Reader.{Reader}
 use Rattle.reader.specs.State.{capacity, impossible, fresh}
 use Rattle.reader.specs.Reading.{read_fault, read_fault_in}
@@ -21,7 +21,7 @@ use Rattle.demands.proofs.LineLends.{ear_of, Takes, hears, refuses_line, leaves_
 
 -- a reader of that system and mode between two lines, with a room of its length
 pub record Tuned (system mode : ℕ) (st : Reader) (room : List ℕ) : Type 0 where
-  pub place : st.place ≡ Shut
+  pub place : st.place ≡ None
   pub of_system : st.system ≡ system
   pub of_mode : st.mode ≡ mode
   pub possible : impossible st ≡ false
@@ -36,7 +36,7 @@ pub record Steps (system mode : ℕ) (st : Reader) (room : List ℕ) (i : Input)
   pub ear : ear_of st' room' ≡ ear_after system mode (ear_of st room) i
   pub tuned : Tuned system mode st' room'
 
-module _ (st : Reader) (line room : List ℕ) (hs : List Heard) (st' : Reader) (room' : List ℕ) (at : st.place ≡ Shut) (possible : impossible st ≡ false)
+module _ (st : Reader) (line room : List ℕ) (hs : List Heard) (st' : Reader) (room' : List ℕ) (at : st.place ≡ None) (possible : impossible st ≡ false)
     (long : length room ≡ capacity) (lent : Lends line st room hs st' room') where
   abbrev StepsTo : Input → Type 0
   StepsTo i = Steps st.system st.mode st room i hs st' room'

@@ -1,5 +1,6 @@
 -- A line closed: what the ear hears of it where it is kept, and what holds between this line and the next, whatever its fate.
 -- Assumes nothing.
+use Rattle.std.specs.Prelude.{Some}
 use Prim.Native.Nat.{ℕ, zero, suc, ◌+◌, ◌-◌, ◌*◌, ◌≤◌}
 use mathlib.Core.Bool.{Bool, true, false}
 use mathlib.Core.List.{List, [], ◌++◌, append-nil}
@@ -16,7 +17,6 @@ use Rattle.line.specs.Fixed.{is_variable, places_of, size_of}
 use Rattle.line.specs.Layout.{payload_at, area_length, area_of}
 use Rattle.line.specs.Check.{number_of, settings_of, fits, line_fault, checked_from, checked_of}
 use Rattle.line.specs.declared.check.Checked.{Checked}
-use Rattle.course.specs.declared.Last.TheVariants.{Number}
 use Rattle.course.specs.Course.{is_at, blocks_end}
 use Rattle.course.proofs.CourseLaws.{end_in_area, start_placed, grid_some}
 use Rattle.writer.specs.declared.state.Answer.TheVariants.{Done}
@@ -234,7 +234,7 @@ module _ (system mode cap : ℕ) (keeps : ℕ → Bool) (told : Bool) (d : Desk)
   still_part e = sym (ap is_part c.state_rest) ∙ e
 
   -- the line was kept
-  pub kept_between : (ear : Ear) → Matches mode cap keeps d.pieces (now ear.phase ear.room) → ear.last ≡ Number d.now.number → ear.settings ≡ d.now.settings
+  pub kept_between : (ear : Ear) → Matches mode cap keeps d.pieces (now ear.phase ear.room) → ear.last ≡ Some d.now.number → ear.settings ≡ d.now.settings
       → Between mode cap keeps told (closed_by Done (closing d.writer d.now.words) d) ear false
   kept_between ear m l s = record {
     here = λ g. m;

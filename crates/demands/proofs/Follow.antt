@@ -1,5 +1,6 @@
 -- An ear to which what remains of a writer's lines comes, followed call by call.
 -- Assumes nothing.
+use Rattle.std.specs.Prelude.{Option, Some, None}
 use Prim.Native.Nat.{ℕ, suc}
 use mathlib.Core.Bool.{Bool, true, false}
 use mathlib.Core.List.{List, [], ◌∷◌, ◌++◌, append_assoc}
@@ -11,8 +12,6 @@ use Rattle.lists.proofs.Tests.{true_false, and_true}
 use Rattle.line.proofs.CheckLaws.{from_three}
 use Rattle.line.specs.Systems.{system_of}
 use Rattle.line.specs.Check.{fits_length, line_fault}
-use Rattle.course.specs.declared.Place.{Place}
-use Rattle.course.specs.declared.Place.TheVariants.{Shut, At}
 use Rattle.course.specs.Course.{is_at}
 use Rattle.writer.specs.declared.state.Answer.TheVariants.{Done}
 use Rattle.writer.specs.State.{is_part}
@@ -40,9 +39,9 @@ use Rattle.demands.proofs.AddLine.{finished_ahead, unfinished_ahead}
 use Rattle.demands.proofs.QuietLine.{quiet_ahead}
 use Rattle.demands.proofs.EndLine.{Found, found, own_input, refusal_input, area_heard, area_left, shut_ahead, kept_between, removed_between, replaced_between}
 
-at_some : (p : Place) → is_at p ≡ true → (P : Type 0) → ((q : ℕ) → p ≡ At q → P) → P
-at_some Shut e P h = absurd (true_false (sym e))
-at_some (At q) e P h = h q refl
+at_some : (p : Option ℕ) → is_at p ≡ true → (P : Type 0) → ((q : ℕ) → p ≡ Some q → P) → P
+at_some None e P h = absurd (true_false (sym e))
+at_some (Some q) e P h = h q refl
 
 module _ (system mode cap : ℕ) (keeps : ℕ → Bool) (told : Bool) where
   abbrev lines : ℕ

@@ -1,6 +1,7 @@
 -- Lines that a writer of system 0 sends in 8-bit mode with one set of settings, flag 00h and variable: lines without a block, and a block of 1,500 values
 -- over two lines. The area is 1,440 words; the block's 1,507 words are laid 1,440 and 67.
 -- Assumes nothing.
+use Rattle.std.specs.Prelude.{Option, Some, None}
 use Prim.Native.Nat.{ℕ, zero, suc, ◌+◌, ◌-◌, ◌≤◌, ◌<◌, min}
 use mathlib.Core.Bool.{true, false, ◌&&◌, ◌||◌, not}
 use mathlib.Core.List.{List, [], ◌∷◌, ◌++◌}
@@ -21,18 +22,12 @@ use Rattle.line.specs.Fixed.{block_refused}
 use Rattle.line.specs.Layout.{area_length}
 use Rattle.line.specs.Check.{fits_length}
 use Rattle.line.proofs.AreaLaws.{area_most}
-use Rattle.course.specs.declared.Last.{Last}
-use Rattle.course.specs.declared.Last.TheVariants.{Number}
-use Rattle.course.specs.declared.Place.{Place}
-use Rattle.course.specs.declared.Place.TheVariants.{Shut, At}
 use Rattle.course.specs.Course.{next_number, is_at, blocks_end}
-use Rattle.writer.specs.declared.state.Rest.{Rest}
-use Rattle.writer.specs.declared.state.Rest.TheVariants.{NoBlock, Part}
 use Rattle.writer.specs.declared.state.Writer.{Writer}
 use Rattle.writer.specs.declared.state.Answer.{Answer}
 use Rattle.writer.specs.declared.state.Answer.TheVariants.{Done}
 use Rattle.writer.specs.declared.state.Laid.TheVariants.{Finished, Unfinished}
-use Rattle.writer.specs.State.{is_part, impossible, end_in, moved}
+use Rattle.writer.specs.State.{is_part, impossible, end_in, moved, unfinished}
 use Rattle.writer.specs.Answers.{Left, Added}
 use Rattle.writer.specs.Block.{block_words, words_in}
 use Rattle.writer.specs.Opening.{open_blocked, open_fault, open_words}
@@ -50,6 +45,7 @@ use Rattle.demands.specs.Demand3.{Follows}
 use Rattle.demands.proofs.DeskOk.{DeskOk}
 use Rattle.demands.proofs.DeskCalls.{after_opened, after_finished, after_unfinished, after_closed}
 use Rattle.demands.proofs.DeskLaws.{after_ok}
+use Rattle.writer.specs.declared.state.Part.{Part}
 
 -- ---- the settings
 abbrev pub one_set : Settings
@@ -77,14 +73,14 @@ unfolding blocks_end area_length pick
 area_is = refl
 
 -- ---- a desk
-abbrev pub writer : Last → Settings → Place → Rest → ℕ → Writer
+abbrev pub writer : Option ℕ → Settings → Option ℕ → Option Part → ℕ → Writer
 writer l u p r c = record { system = 0; mode = 8; last = l; settings = u; place = p; rest = r; crc = c; used = 0 }
 
 -- with that CRC, and where no word is laid
-abbrev pub desk_of : ℕ → Last → Settings → Place → Rest → Sent → ℕ → List ℕ → List Piece → Desk
+abbrev pub desk_of : ℕ → Option ℕ → Settings → Option ℕ → Option Part → Sent → ℕ → List ℕ → List Piece → Desk
 desk_of c l u p r s i vs ps = record { writer = writer l u p r c; now = s; closed = i; values = vs; pieces = ps }
 
-abbrev pub desk : Last → Settings → Place → Rest → Sent → ℕ → List ℕ → List Piece → Desk
+abbrev pub desk : Option ℕ → Settings → Option ℕ → Option Part → Sent → ℕ → List ℕ → List Piece → Desk
 desk l u p r s i vs ps = desk_of crc_start l u p r s i vs ps
 
 -- a line of these settings, F and V 0
@@ -134,61 +130,61 @@ module _ (lent : List ℕ) (lent_long : length lent ≡ 1716) where
   abbrev opening_of : ℕ → Call
   opening_of n = opens false false n one_set set_held lent
 
-  module _ (l : Last) (u : Settings) (r : Rest) (s : Sent) (i : ℕ) (vs : List ℕ) (ps : List Piece) (n : ℕ) (ok : DeskOk 0 8 (desk l u Shut r s i vs ps))
-      (range : (leb 1 n && leb n 525) ≡ true) (free : open_blocked (writer l u Shut r crc_start) n one_set ≡ false) where
+  module _ (l : Option ℕ) (u : Settings) (r : Option Part) (s : Sent) (i : ℕ) (vs : List ℕ) (ps : List Piece) (n : ℕ) (ok : DeskOk 0 8 (desk l u None r s i vs ps))
+      (range : (leb 1 n && leb n 525) ≡ true) (free : open_blocked (writer l u None r crc_start) n one_set ≡ false) where
     abbrev opened : Desk
-    opened = desk (Number n) one_set (At 0) r (sent n [] [] (open_words 0 false false n one_set)) i vs ps
+    opened = desk (Some n) one_set (Some 0) r (sent n [] [] (open_words 0 false false n one_set)) i vs ps
 
-    open_is : after (desk l u Shut r s i vs ps) (opening_of n) ≡ opened
+    open_is : after (desk l u None r s i vs ps) (opening_of n) ≡ opened
     open_is =
-        let d = desk l u Shut r s i vs ps in
+        let d = desk l u None r s i vs ps in
         let clear = open_free d.writer n (length lent) (fits_by (length lent) lent_long) ok.possible range set_clean free in
         let x = open_leaves d.writer false false n one_set lent clear in
         after_opened d false false n one_set set_held lent (ap (λ (y : Left). y.answer) x)
         ∙ ap (λ (y : Left). opened_by Done y d false false n one_set) x
 
     open_ok : DeskOk 0 8 opened
-    open_ok = subst (DeskOk 0 8) open_is (after_ok 0 8 (desk l u Shut r s i vs ps) (opening_of n) ok)
+    open_ok = subst (DeskOk 0 8) open_is (after_ok 0 8 (desk l u None r s i vs ps) (opening_of n) ok)
 
-    open_sends : (cs : List Call) → sent_by (desk l u Shut r s i vs ps) (opening_of n ∷ cs) ≡ sent_by opened cs
+    open_sends : (cs : List Call) → sent_by (desk l u None r s i vs ps) (opening_of n ∷ cs) ≡ sent_by opened cs
     unfolding sent_by sends
     open_sends cs = ap (λ (d : Desk). sent_by d cs) open_is
 
 -- ---- a line closed
-module _ (n p : ℕ) (r : Rest) (c : ℕ) (qs : List (List ℕ)) (bs : List Complete) (ws : List ℕ) (i : ℕ) (vs : List ℕ) (ps : List Piece)
-    (ok : DeskOk 0 8 (desk_of c (Number n) one_set (At p) r (sent n qs bs ws) i vs ps)) (none_left : (is_part r && not (is_full 1440 (At p))) ≡ false) where
+module _ (n p : ℕ) (r : Option Part) (c : ℕ) (qs : List (List ℕ)) (bs : List Complete) (ws : List ℕ) (i : ℕ) (vs : List ℕ) (ps : List Piece)
+    (ok : DeskOk 0 8 (desk_of c (Some n) one_set (Some p) r (sent n qs bs ws) i vs ps)) (none_left : (is_part r && not (is_full 1440 (Some p))) ≡ false) where
   abbrev before : Desk
-  before = desk_of c (Number n) one_set (At p) r (sent n qs bs ws) i vs ps
+  before = desk_of c (Some n) one_set (Some p) r (sent n qs bs ws) i vs ps
 
   -- its words
   shut : List ℕ
-  shut = (closing (writer (Number n) one_set (At p) r c) ws).line
+  shut = (closing (writer (Some n) one_set (Some p) r c) ws).line
 
-  free_now : close_fault (writer (Number n) one_set (At p) r c) (length ws) ≡ 0
+  free_now : close_fault (writer (Some n) one_set (Some p) r c) (length ws) ≡ 0
   free_now =
-      close_free (writer (Number n) one_set (At p) r c) (length ws) (fits_by (length ws) (open_long before ok refl)) ok.possible
-      (ap (λ (m : ℕ). is_part r && not (is_full m (At p))) area_is ∙ none_left)
+      close_free (writer (Some n) one_set (Some p) r c) (length ws) (fits_by (length ws) (open_long before ok refl)) ok.possible
+      (ap (λ (m : ℕ). is_part r && not (is_full m (Some p))) area_is ∙ none_left)
 
-  leaves : (closing (writer (Number n) one_set (At p) r c) ws).state ≡ writer (Number n) one_set Shut r crc_start
-  leaves = ap (λ (y : Left). y.state) (close_leaves (writer (Number n) one_set (At p) r c) ws free_now)
+  leaves : (closing (writer (Some n) one_set (Some p) r c) ws).state ≡ writer (Some n) one_set None r crc_start
+  leaves = ap (λ (y : Left). y.state) (close_leaves (writer (Some n) one_set (Some p) r c) ws free_now)
 
-  done : (closing (writer (Number n) one_set (At p) r c) ws).answer ≡ Done
-  done = ap (λ (y : Left). y.answer) (close_leaves (writer (Number n) one_set (At p) r c) ws free_now)
+  done : (closing (writer (Some n) one_set (Some p) r c) ws).answer ≡ Done
+  done = ap (λ (y : Left). y.answer) (close_leaves (writer (Some n) one_set (Some p) r c) ws free_now)
 
-  close_is : after before closes ≡ desk (Number n) one_set Shut r (sent n qs bs shut) (suc i) vs ps
+  close_is : after before closes ≡ desk (Some n) one_set None r (sent n qs bs shut) (suc i) vs ps
   unfolding shut
   close_is =
       after_closed before done
       ∙ ap {B = Desk} (λ (w : Writer). record { writer = w; now = sent n qs bs shut; closed = suc i; values = vs; pieces = ps }) leaves
 
-  close_ok : DeskOk 0 8 (desk (Number n) one_set Shut r (sent n qs bs shut) (suc i) vs ps)
+  close_ok : DeskOk 0 8 (desk (Some n) one_set None r (sent n qs bs shut) (suc i) vs ps)
   close_ok = subst (DeskOk 0 8) close_is (after_ok 0 8 before closes ok)
 
-  close_sends : (cs : List Call) → sent_by (desk_of c (Number n) one_set (At p) r (sent n qs bs ws) i vs ps) (closes ∷ cs)
-      ≡ sent n qs bs shut ∷ sent_by (desk (Number n) one_set Shut r (sent n qs bs shut) (suc i) vs ps) cs
+  close_sends : (cs : List Call) → sent_by (desk_of c (Some n) one_set (Some p) r (sent n qs bs ws) i vs ps) (closes ∷ cs)
+      ≡ sent n qs bs shut ∷ sent_by (desk (Some n) one_set None r (sent n qs bs shut) (suc i) vs ps) cs
   unfolding sent_by sends shut
   close_sends cs =
-      let x = closing (writer (Number n) one_set (At p) r c) ws in
+      let x = closing (writer (Some n) one_set (Some p) r c) ws in
       ap (λ (a : Answer). sends_by a x before ++ sent_by (after before closes) cs) done
       ∙ ap {B = List Sent} (λ (d : Desk). sent n qs bs shut ∷ sent_by d cs) close_is
 
@@ -217,21 +213,21 @@ block_is vs = words_variable 0xc1 8 1 vs refl
 words_are : (vs : List ℕ) → Values vs → length (words_in 0xc1 8 1 vs) ≡ 1507
 words_are vs v = ap length (block_is vs) ∙ block_long 8 1 vs ∙ ap (λ (n : ℕ). n + 7) v.long
 
-shape_is : (vs : List ℕ) → Values vs → ill_shaped (At 0) 0xc1 1 (length vs) ≡ false
+shape_is : (vs : List ℕ) → Values vs → ill_shaped (Some 0) 0xc1 1 (length vs) ≡ false
 unfolding ill_shaped
-shape_is vs v = ap (ill_shaped (At 0) 0xc1 1) v.long
+shape_is vs v = ap (ill_shaped (Some 0) 0xc1 1) v.long
 
 -- room for a word
-not_full : is_full (blocks_end 1440 0xc1 0) (At 0) ≡ false
-not_full = ap (λ (m : ℕ). is_full m (At 0)) area_is
+not_full : is_full (blocks_end 1440 0xc1 0) (Some 0) ≡ false
+not_full = ap (λ (m : ℕ). is_full m (Some 0)) area_is
 
 -- ---- the first line of a block: it is filled
-module _ (n : ℕ) (ws : List ℕ) (i : ℕ) (vs : List ℕ) (v : Values vs) (ok : DeskOk 0 8 (desk (Number n) one_set (At 0) NoBlock (sent n [] [] ws) i [] [])) where
+module _ (n : ℕ) (ws : List ℕ) (i : ℕ) (vs : List ℕ) (v : Values vs) (ok : DeskOk 0 8 (desk (Some n) one_set (Some 0) None (sent n [] [] ws) i [] [])) where
   abbrev w : Writer
-  w = writer (Number n) one_set (At 0) NoBlock crc_start
+  w = writer (Some n) one_set (Some 0) None crc_start
 
   abbrev fresh_line : Desk
-  fresh_line = desk (Number n) one_set (At 0) NoBlock (sent n [] [] ws) i [] []
+  fresh_line = desk (Some n) one_set (Some 0) None (sent n [] [] ws) i [] []
 
   head_free : add_fault w (length ws) 1 vs ≡ 0
   head_free = add_free w (length ws) 1 vs (fits_by (length ws) (open_long fresh_line ok refl)) ok.possible v.fit (shape_is vs v) not_full refl
@@ -242,12 +238,12 @@ module _ (n : ℕ) (ws : List ℕ) (i : ℕ) (vs : List ℕ) (v : Values vs) (ok
   head_more : eqb (fitting w (todo w 1 vs)) (length (todo w 1 vs)) ≡ false
   head_more = ap₂ eqb head_room (words_are vs v)
 
-  head_leaves : (adding w ws 1 vs).state ≡ writer (Number n) one_set (At 1440) (Part 1 1500 1440) (crc_of crc_start (head_of vs))
+  head_leaves : (adding w ws 1 vs).state ≡ writer (Some n) one_set (Some 1440) (unfinished 1 1500 1440) (crc_of crc_start (head_of vs))
   head_leaves =
       ap (λ (x : Added). x.state) (add_leaves w ws 1 vs head_free)
-      ∙ ap₂ (λ (k : ℕ) (r : Rest). moved w (At (0 + k)) r (crc_of crc_start (take (fitting w (todo w 1 vs)) (todo w 1 vs)))) head_room
-      (pick_false _ _ head_more ∙ ap₂ (λ (m k : ℕ). Part 1 m (0 + k)) v.long head_room)
-      ∙ ap (λ (l : List ℕ). writer (Number n) one_set (At 1440) (Part 1 1500 1440) (crc_of crc_start l)) (ap₂ take head_room (block_is vs))
+      ∙ ap₂ (λ (k : ℕ) (r : Option Part). moved w (Some (0 + k)) r (crc_of crc_start (take (fitting w (todo w 1 vs)) (todo w 1 vs)))) head_room
+      (pick_false _ _ head_more ∙ ap₂ (λ (m k : ℕ). unfinished 1 m (0 + k)) v.long head_room)
+      ∙ ap (λ (l : List ℕ). writer (Some n) one_set (Some 1440) (unfinished 1 1500 1440) (crc_of crc_start l)) (ap₂ take head_room (block_is vs))
 
   head_answer : (adding w ws 1 vs).answer ≡ Unfinished
   head_answer = ap (λ (x : Added). x.answer) (add_leaves w ws 1 vs head_free) ∙ pick_false _ _ head_more
@@ -256,10 +252,10 @@ module _ (n : ℕ) (ws : List ℕ) (i : ℕ) (vs : List ℕ) (v : Values vs) (ok
   head_piece = piece_laid w ws 1 vs head_free ∙ ap₂ take head_room (block_is vs)
 
   head_line : List ℕ
-  head_line = (adding (writer (Number n) one_set (At 0) NoBlock crc_start) ws 1 vs).line
+  head_line = (adding (writer (Some n) one_set (Some 0) None crc_start) ws 1 vs).line
 
   head_is : after fresh_line (adds 1 vs)
-      ≡ desk_of (crc_of crc_start (head_of vs)) (Number n) one_set (At 1440) (Part 1 1500 1440) (sent n (head_of vs ∷ []) [] head_line) i vs (piece i (head_of vs) ∷ [])
+      ≡ desk_of (crc_of crc_start (head_of vs)) (Some n) one_set (Some 1440) (unfinished 1 1500 1440) (sent n (head_of vs ∷ []) [] head_line) i vs (piece i (head_of vs) ∷ [])
   unfolding head_line
   head_is =
       after_unfinished fresh_line 1 vs head_answer
@@ -268,12 +264,12 @@ module _ (n : ℕ) (ws : List ℕ) (i : ℕ) (vs : List ℕ) (v : Values vs) (ok
 
 -- ---- the second line
 module _ (n : ℕ) (ws : List ℕ) (i : ℕ) (us vs : List ℕ) (ps : List Piece) (v : Values vs)
-    (ok : DeskOk 0 8 (desk (Number n) one_set (At 0) (Part 1 1500 1440) (sent n [] [] ws) i us ps)) where
+    (ok : DeskOk 0 8 (desk (Some n) one_set (Some 0) (unfinished 1 1500 1440) (sent n [] [] ws) i us ps)) where
   abbrev w' : Writer
-  w' = writer (Number n) one_set (At 0) (Part 1 1500 1440) crc_start
+  w' = writer (Some n) one_set (Some 0) (unfinished 1 1500 1440) crc_start
 
   abbrev owing_line : Desk
-  owing_line = desk (Number n) one_set (At 0) (Part 1 1500 1440) (sent n [] [] ws) i us ps
+  owing_line = desk (Some n) one_set (Some 0) (unfinished 1 1500 1440) (sent n [] [] ws) i us ps
 
   tail_free : add_fault w' (length ws) 1 vs ≡ 0
   tail_free =
@@ -295,16 +291,16 @@ module _ (n : ℕ) (ws : List ℕ) (i : ℕ) (us vs : List ℕ) (ps : List Piece
   tail_piece : piece_of w' ws 1 vs ≡ tail_of vs
   tail_piece = all_laid w' ws 1 vs tail_free tail_answer ∙ ap (drop 1440) (block_is vs)
 
-  tail_leaves : (adding w' ws 1 vs).state ≡ writer (Number n) one_set (At 67) NoBlock (crc_of crc_start (tail_of vs))
+  tail_leaves : (adding w' ws 1 vs).state ≡ writer (Some n) one_set (Some 67) None (crc_of crc_start (tail_of vs))
   tail_leaves =
       ap (λ (x : Added). x.state) (add_leaves w' ws 1 vs tail_free)
-      ∙ ap₂ (λ (k : ℕ) (r : Rest). moved w' (At (0 + k)) r (crc_of crc_start (take (fitting w' (todo w' 1 vs)) (todo w' 1 vs)))) tail_room (pick_true _ _ tail_all)
-      ∙ ap (λ (l : List ℕ). writer (Number n) one_set (At 67) NoBlock (crc_of crc_start l)) (sym (piece_laid w' ws 1 vs tail_free) ∙ tail_piece)
+      ∙ ap₂ (λ (k : ℕ) (r : Option Part). moved w' (Some (0 + k)) r (crc_of crc_start (take (fitting w' (todo w' 1 vs)) (todo w' 1 vs)))) tail_room (pick_true _ _ tail_all)
+      ∙ ap (λ (l : List ℕ). writer (Some n) one_set (Some 67) None (crc_of crc_start l)) (sym (piece_laid w' ws 1 vs tail_free) ∙ tail_piece)
 
   tail_line : List ℕ
-  tail_line = (adding (writer (Number n) one_set (At 0) (Part 1 1500 1440) crc_start) ws 1 vs).line
+  tail_line = (adding (writer (Some n) one_set (Some 0) (unfinished 1 1500 1440) crc_start) ws 1 vs).line
 
-  tail_is : after owing_line (adds 1 vs) ≡ desk_of (crc_of crc_start (tail_of vs)) (Number n) one_set (At 67) NoBlock (sent n (tail_of vs ∷ []) (block_of i ps us vs ∷ []) tail_line) i [] []
+  tail_is : after owing_line (adds 1 vs) ≡ desk_of (crc_of crc_start (tail_of vs)) (Some n) one_set (Some 67) None (sent n (tail_of vs ∷ []) (block_of i ps us vs ∷ []) tail_line) i [] []
   unfolding tail_line
   tail_is =
       after_finished owing_line 1 vs tail_answer
@@ -328,12 +324,12 @@ unfolding sent_by sends
 add_sends d d' vs cs e = ap (λ (x : Desk). sent_by x cs) e
 
 -- nothing owing: any number may come
-any_number : (l : Last) (u : Settings) (n : ℕ) → open_blocked (writer l u Shut NoBlock crc_start) n one_set ≡ false
+any_number : (l : Option ℕ) (u : Settings) (n : ℕ) → open_blocked (writer l u None None crc_start) n one_set ≡ false
 unfolding open_blocked
 any_number l u n = refl
 
 -- the second line has number 2 where the first has number 1
-next_number_lem : open_blocked (writer (Number 1) one_set Shut (Part 1 1500 1440) crc_start) 2 one_set ≡ false
+next_number_lem : open_blocked (writer (Some 1) one_set None (unfinished 1 1500 1440) crc_start) 2 one_set ≡ false
 unfolding open_blocked same_settings next_number pick
 next_number_lem = refl
 
@@ -361,75 +357,75 @@ abbrev pub second_of : ℕ → List ℕ → List ℕ → List ℕ → Sent
 second_of i us vs ws = sent 2 (tail_of vs ∷ []) (block_of (suc i) (piece i (head_of us) ∷ []) us vs ∷ []) ws
 
 module _ (lent : List ℕ) (lent_long : length lent ≡ 1716) where
-  pub empty_sent : (l : Last) (u : Settings) (s : Sent) (i n : ℕ) → DeskOk 0 8 (desk l u Shut NoBlock s i [] []) → (leb 1 n && leb n 525) ≡ true
-      → Line (desk l u Shut NoBlock s i [] []) (empty_line lent n) (sent n [] []) (λ x. desk (Number n) one_set Shut NoBlock x (suc i) [] [])
+  pub empty_sent : (l : Option ℕ) (u : Settings) (s : Sent) (i n : ℕ) → DeskOk 0 8 (desk l u None None s i [] []) → (leb 1 n && leb n 525) ≡ true
+      → Line (desk l u None None s i [] []) (empty_line lent n) (sent n [] []) (λ x. desk (Some n) one_set None None x (suc i) [] [])
   empty_sent l u s i n ok range =
       let free = any_number l u n in
       let ws = open_words 0 false false n one_set in
-      let ok₁ = open_ok lent lent_long l u NoBlock s i [] [] n ok range free in
+      let ok₁ = open_ok lent lent_long l u None s i [] [] n ok range free in
       record {
-        words = shut n 0 NoBlock crc_start [] [] ws i [] [] ok₁ refl;
-        is = λ cs. open_sends lent lent_long l u NoBlock s i [] [] n ok range free (closes ∷ cs) ∙ close_sends n 0 NoBlock crc_start [] [] ws i [] [] ok₁ refl cs;
-        ok = close_ok n 0 NoBlock crc_start [] [] ws i [] [] ok₁ refl;
+        words = shut n 0 None crc_start [] [] ws i [] [] ok₁ refl;
+        is = λ cs. open_sends lent lent_long l u None s i [] [] n ok range free (closes ∷ cs) ∙ close_sends n 0 None crc_start [] [] ws i [] [] ok₁ refl cs;
+        ok = close_ok n 0 None crc_start [] [] ws i [] [] ok₁ refl;
       }
 
-  pub head_sent : (l : Last) (u : Settings) (s : Sent) (i n : ℕ) (vs : List ℕ) → Values vs → DeskOk 0 8 (desk l u Shut NoBlock s i [] []) → (leb 1 n && leb n 525) ≡ true
-      → Line (desk l u Shut NoBlock s i [] []) (block_line lent n vs) (sent n (head_of vs ∷ []) [])
-      (λ x. desk (Number n) one_set Shut (Part 1 1500 1440) x (suc i) vs (piece i (head_of vs) ∷ []))
+  pub head_sent : (l : Option ℕ) (u : Settings) (s : Sent) (i n : ℕ) (vs : List ℕ) → Values vs → DeskOk 0 8 (desk l u None None s i [] []) → (leb 1 n && leb n 525) ≡ true
+      → Line (desk l u None None s i [] []) (block_line lent n vs) (sent n (head_of vs ∷ []) [])
+      (λ x. desk (Some n) one_set None (unfinished 1 1500 1440) x (suc i) vs (piece i (head_of vs) ∷ []))
   head_sent l u s i n vs v ok range =
       let free = any_number l u n in
       let ws = open_words 0 false false n one_set in
-      let ok₁ = open_ok lent lent_long l u NoBlock s i [] [] n ok range free in
-      let d₁ = desk (Number n) one_set (At 0) NoBlock (sent n [] [] ws) i [] [] in
+      let ok₁ = open_ok lent lent_long l u None s i [] [] n ok range free in
+      let d₁ = desk (Some n) one_set (Some 0) None (sent n [] [] ws) i [] [] in
       let ws₂ = head_line n ws i vs v ok₁ in
       let qs = head_of vs ∷ [] in
       let ps = piece i (head_of vs) ∷ [] in
       let c = crc_of crc_start (head_of vs) in
-      let d₂ = desk_of c (Number n) one_set (At 1440) (Part 1 1500 1440) (sent n qs [] ws₂) i vs ps in
+      let d₂ = desk_of c (Some n) one_set (Some 1440) (unfinished 1 1500 1440) (sent n qs [] ws₂) i vs ps in
       let is₂ = head_is n ws i vs v ok₁ in
       let ok₂ = subst (DeskOk 0 8) is₂ (after_ok 0 8 d₁ (adds 1 vs) ok₁) in
       record {
-        words = shut n 1440 (Part 1 1500 1440) c qs [] ws₂ i vs ps ok₂ refl;
-        is = λ cs. open_sends lent lent_long l u NoBlock s i [] [] n ok range free (adds 1 vs ∷ closes ∷ cs) ∙ add_sends d₁ d₂ vs (closes ∷ cs) is₂
-            ∙ close_sends n 1440 (Part 1 1500 1440) c qs [] ws₂ i vs ps ok₂ refl cs;
-        ok = close_ok n 1440 (Part 1 1500 1440) c qs [] ws₂ i vs ps ok₂ refl;
+        words = shut n 1440 (unfinished 1 1500 1440) c qs [] ws₂ i vs ps ok₂ refl;
+        is = λ cs. open_sends lent lent_long l u None s i [] [] n ok range free (adds 1 vs ∷ closes ∷ cs) ∙ add_sends d₁ d₂ vs (closes ∷ cs) is₂
+            ∙ close_sends n 1440 (unfinished 1 1500 1440) c qs [] ws₂ i vs ps ok₂ refl cs;
+        ok = close_ok n 1440 (unfinished 1 1500 1440) c qs [] ws₂ i vs ps ok₂ refl;
       }
 
-  pub tail_sent : (s : Sent) (i : ℕ) (us vs : List ℕ) (ps : List Piece) → Values vs → DeskOk 0 8 (desk (Number 1) one_set Shut (Part 1 1500 1440) s i us ps)
-      → Line (desk (Number 1) one_set Shut (Part 1 1500 1440) s i us ps) (block_line lent 2 vs) (sent 2 (tail_of vs ∷ []) (block_of i ps us vs ∷ []))
-      (λ x. desk (Number 2) one_set Shut NoBlock x (suc i) [] [])
+  pub tail_sent : (s : Sent) (i : ℕ) (us vs : List ℕ) (ps : List Piece) → Values vs → DeskOk 0 8 (desk (Some 1) one_set None (unfinished 1 1500 1440) s i us ps)
+      → Line (desk (Some 1) one_set None (unfinished 1 1500 1440) s i us ps) (block_line lent 2 vs) (sent 2 (tail_of vs ∷ []) (block_of i ps us vs ∷ []))
+      (λ x. desk (Some 2) one_set None None x (suc i) [] [])
   tail_sent s i us vs ps v ok =
-      let part = Part 1 1500 1440 in
+      let part = unfinished 1 1500 1440 in
       let ws = open_words 0 false false 2 one_set in
-      let ok₁ = open_ok lent lent_long (Number 1) one_set part s i us ps 2 ok refl next_number_lem in
-      let d₁ = desk (Number 2) one_set (At 0) part (sent 2 [] [] ws) i us ps in
+      let ok₁ = open_ok lent lent_long (Some 1) one_set part s i us ps 2 ok refl next_number_lem in
+      let d₁ = desk (Some 2) one_set (Some 0) part (sent 2 [] [] ws) i us ps in
       let ws₂ = tail_line 2 ws i us vs ps v ok₁ in
       let qs = tail_of vs ∷ [] in
       let bs = block_of i ps us vs ∷ [] in
       let c = crc_of crc_start (tail_of vs) in
-      let d₂ = desk_of c (Number 2) one_set (At 67) NoBlock (sent 2 qs bs ws₂) i [] [] in
+      let d₂ = desk_of c (Some 2) one_set (Some 67) None (sent 2 qs bs ws₂) i [] [] in
       let is₂ = tail_is 2 ws i us vs ps v ok₁ in
       let ok₂ = subst (DeskOk 0 8) is₂ (after_ok 0 8 d₁ (adds 1 vs) ok₁) in
       record {
-        words = shut 2 67 NoBlock c qs bs ws₂ i [] [] ok₂ refl;
-        is = λ cs. open_sends lent lent_long (Number 1) one_set part s i us ps 2 ok refl next_number_lem (adds 1 vs ∷ closes ∷ cs) ∙ add_sends d₁ d₂ vs (closes ∷ cs) is₂
-            ∙ close_sends 2 67 NoBlock c qs bs ws₂ i [] [] ok₂ refl cs;
-        ok = close_ok 2 67 NoBlock c qs bs ws₂ i [] [] ok₂ refl;
+        words = shut 2 67 None c qs bs ws₂ i [] [] ok₂ refl;
+        is = λ cs. open_sends lent lent_long (Some 1) one_set part s i us ps 2 ok refl next_number_lem (adds 1 vs ∷ closes ∷ cs) ∙ add_sends d₁ d₂ vs (closes ∷ cs) is₂
+            ∙ close_sends 2 67 None c qs bs ws₂ i [] [] ok₂ refl cs;
+        ok = close_ok 2 67 None c qs bs ws₂ i [] [] ok₂ refl;
       }
 
   -- ---- lines without a block, one after another
   pub record Fillers (k x i : ℕ) (s : Sent) : Type 0 where
     pub lines : List Sent
     pub last_one : Sent
-    pub is : (cs : List Call) → sent_by (desk (Number x) one_set Shut NoBlock s i [] []) (fillers lent k x cs)
-        ≡ lines ++ sent_by (desk (Number (x + k)) one_set Shut NoBlock last_one (i + k) [] []) cs
-    pub ok : DeskOk 0 8 (desk (Number (x + k)) one_set Shut NoBlock last_one (i + k) [] [])
+    pub is : (cs : List Call) → sent_by (desk (Some x) one_set None None s i [] []) (fillers lent k x cs)
+        ≡ lines ++ sent_by (desk (Some (x + k)) one_set None None last_one (i + k) [] []) cs
+    pub ok : DeskOk 0 8 (desk (Some (x + k)) one_set None None last_one (i + k) [] [])
     pub long : length lines ≡ k
     pub blocks : (rest : List Sent) → blocks_of (lines ++ rest) ≡ blocks_of rest
     pub follows : (rest : List Sent) → Follows 525 (x + k) rest → Follows 525 x (lines ++ rest)
 
   one_more : (k x i : ℕ) (s : Sent) → x < 525
-      → (first : Line (desk (Number x) one_set Shut NoBlock s i [] []) (empty_line lent (suc x)) (sent (suc x) [] []) (λ y. desk (Number (suc x)) one_set Shut NoBlock y (suc i) [] []))
+      → (first : Line (desk (Some x) one_set None None s i [] []) (empty_line lent (suc x)) (sent (suc x) [] []) (λ y. desk (Some (suc x)) one_set None None y (suc i) [] []))
       → Fillers k (suc x) (suc i) (sent (suc x) [] [] first.words) → Fillers (suc k) x i s
   one_more k x i s below first more =
       let ex : suc x + k ≡ x + suc k = omega arith in
@@ -441,31 +437,31 @@ module _ (lent : List ℕ) (lent_long : length lent ≡ 1716) where
         last_one = end;
         is = λ cs. first.is (fillers lent k (suc x) cs)
             ∙ ap {B = List Sent} (λ (l : List Sent). line ∷ l)
-            (more.is cs ∙ ap₂ (λ (y j : ℕ). more.lines ++ sent_by (desk (Number y) one_set Shut NoBlock end j [] []) cs) ex ei);
-        ok = subst (λ (j : ℕ). DeskOk 0 8 (desk (Number (x + suc k)) one_set Shut NoBlock end j [] [])) ei
-            (subst (λ (y : ℕ). DeskOk 0 8 (desk (Number y) one_set Shut NoBlock end (suc i + k) [] [])) ex more.ok);
+            (more.is cs ∙ ap₂ (λ (y j : ℕ). more.lines ++ sent_by (desk (Some y) one_set None None end j [] []) cs) ex ei);
+        ok = subst (λ (j : ℕ). DeskOk 0 8 (desk (Some (x + suc k)) one_set None None end j [] [])) ei
+            (subst (λ (y : ℕ). DeskOk 0 8 (desk (Some y) one_set None None end (suc i + k) [] [])) ex more.ok);
         long = ap suc more.long;
         blocks = λ rest. more.blocks rest;
         follows = λ rest h. (sym (goes_up x below), more.follows rest (subst (λ (y : ℕ). Follows 525 y rest) (sym ex) h));
       }
 
-  pub fillers_sent : (k x i : ℕ) (s : Sent) → x + k ≤ 525 → DeskOk 0 8 (desk (Number x) one_set Shut NoBlock s i [] []) → Fillers k x i s
+  pub fillers_sent : (k x i : ℕ) (s : Sent) → x + k ≤ 525 → DeskOk 0 8 (desk (Some x) one_set None None s i [] []) → Fillers k x i s
   fillers_sent zero x i s most ok =
       let ex = sym (add-zero x) in
       let ei = sym (add-zero i) in
       record {
         lines = [];
         last_one = s;
-        is = λ cs. ap₂ (λ (y j : ℕ). sent_by (desk (Number y) one_set Shut NoBlock s j [] []) cs) ex ei;
-        ok = subst (λ (j : ℕ). DeskOk 0 8 (desk (Number (x + 0)) one_set Shut NoBlock s j [] [])) ei
-            (subst (λ (y : ℕ). DeskOk 0 8 (desk (Number y) one_set Shut NoBlock s i [] [])) ex ok);
+        is = λ cs. ap₂ (λ (y j : ℕ). sent_by (desk (Some y) one_set None None s j [] []) cs) ex ei;
+        ok = subst (λ (j : ℕ). DeskOk 0 8 (desk (Some (x + 0)) one_set None None s j [] [])) ei
+            (subst (λ (y : ℕ). DeskOk 0 8 (desk (Some y) one_set None None s i [] [])) ex ok);
         long = refl;
         blocks = λ rest. refl;
         follows = λ rest h. subst (λ (y : ℕ). Follows 525 y rest) (add-zero x) h;
       }
   fillers_sent (suc k) x i s most ok =
       let below : suc x ≤ 525 = omega arith in
-      let first = empty_sent (Number x) one_set s i (suc x) ok (and_true (le-leb 1 (suc x) (omega arith)) (le-leb (suc x) 525 below)) in
+      let first = empty_sent (Some x) one_set s i (suc x) ok (and_true (le-leb 1 (suc x) (omega arith)) (le-leb (suc x) 525 below)) in
       one_more k x i s below first (fillers_sent k (suc x) (suc i) (sent (suc x) [] [] first.words) (omega arith) first.ok)
 
   -- ---- a block over two lines
@@ -473,11 +469,11 @@ module _ (lent : List ℕ) (lent_long : length lent ≡ 1716) where
     pub first : List ℕ
     pub second : List ℕ
     pub is : (cs : List Call) → sent_by d (block_line lent 1 us (block_line lent 2 vs cs))
-        ≡ first_of us first ∷ (second_of i us vs second ∷ sent_by (desk (Number 2) one_set Shut NoBlock (second_of i us vs second) (suc (suc i)) [] []) cs)
-    pub ok : DeskOk 0 8 (desk (Number 2) one_set Shut NoBlock (second_of i us vs second) (suc (suc i)) [] [])
+        ≡ first_of us first ∷ (second_of i us vs second ∷ sent_by (desk (Some 2) one_set None None (second_of i us vs second) (suc (suc i)) [] []) cs)
+    pub ok : DeskOk 0 8 (desk (Some 2) one_set None None (second_of i us vs second) (suc (suc i)) [] [])
 
-  pub block_sent : (l : Last) (u : Settings) (s : Sent) (i : ℕ) (us vs : List ℕ) → Values us → Values vs → DeskOk 0 8 (desk l u Shut NoBlock s i [] [])
-      → Lays (desk l u Shut NoBlock s i [] []) i us vs
+  pub block_sent : (l : Option ℕ) (u : Settings) (s : Sent) (i : ℕ) (us vs : List ℕ) → Values us → Values vs → DeskOk 0 8 (desk l u None None s i [] [])
+      → Lays (desk l u None None s i [] []) i us vs
   block_sent l u s i us vs x y ok =
       let p = head_sent l u s i 1 us x ok refl in
       let line = first_of us p.words in

@@ -2,6 +2,7 @@
 -- line is kept, the 525 lines behind it are removed, and the line kept next is the second line of another block of the same type and length. Its number
 -- comes next, so the reader takes it for the second line of the first block, and hands out a block that nobody wrote.
 -- Assumes nothing.
+use Rattle.std.specs.Prelude.{Some, None}
 use Prim.Native.Nat.{ℕ, zero, suc, ◌+◌, ◌<◌}
 use mathlib.Core.Bool.{Bool, true, false, ◌&&◌}
 use mathlib.Core.List.{List, [], ◌∷◌, ◌++◌, map, append_assoc}
@@ -13,10 +14,7 @@ use Rattle.lists.specs.Tests.{pick}
 use Rattle.lists.proofs.Tests.{pick_false}
 use Rattle.words.specs.Modes.{values}
 use Rattle.line.specs.Settings.{no_settings}
-use Rattle.course.specs.declared.Last.TheVariants.{Unknown, Number}
-use Rattle.course.specs.declared.Place.TheVariants.{Shut}
 use Rattle.course.specs.Course.{next_number}
-use Rattle.writer.specs.declared.state.Rest.TheVariants.{NoBlock}
 use Rattle.writer.specs.Adding.{valued}
 use Rattle.writer.specs.Filling.{as_laid}
 use Rattle.lists.proofs.Lists.{take_filler, drop_filler}
@@ -77,11 +75,11 @@ module _ (lent : List ℕ) (lent_long : length lent ≡ 1716) (a b : List ℕ) (
     follows : (rest : List Sent) → Follows 525 525 rest → Follows 525 2 (between ++ rest)
 
   sends_by_lem : (x : Lays lent lent_long (start 0 8) 0 a a) (m : Fillers lent lent_long 523 2 2 (second_of 0 a a x.second))
-      → Lays lent lent_long (desk (Number 525) one_set Shut NoBlock m.last_one 525 [] []) 525 b b → Sends
+      → Lays lent lent_long (desk (Some 525) one_set None None m.last_one 525 [] []) 525 b b → Sends
   unfolding calls
   sends_by_lem x m y =
       let last_two = first_of b y.first ∷ (second_of 525 b b y.second ∷ []) in
-      let end : sent_by (desk (Number 525) one_set Shut NoBlock m.last_one 525 [] []) (block_line lent 1 b (block_line lent 2 b [])) ≡ last_two =
+      let end : sent_by (desk (Some 525) one_set None None m.last_one 525 [] []) (block_line lent 1 b (block_line lent 2 b [])) ≡ last_two =
       y.is [] ∙ ap {B = List Sent} (λ (l : List Sent). first_of b y.first ∷ (second_of 525 b b y.second ∷ l)) (none_sent _) in
       record {
         w₀ = x.first;
@@ -99,9 +97,9 @@ module _ (lent : List ℕ) (lent_long : length lent ≡ 1716) (a b : List ℕ) (
 
   sends_them : Sends
   sends_them =
-      let x = block_sent lent lent_long Unknown no_settings (start 0 8).now 0 a a va va (start_ok 0 8) in
+      let x = block_sent lent lent_long None no_settings (start 0 8).now 0 a a va va (start_ok 0 8) in
       let m = fillers_sent lent lent_long 523 2 2 (second_of 0 a a x.second) (omega arith) x.ok in
-      sends_by_lem x m (block_sent lent lent_long (Number 525) one_set m.last_one 525 b b vb vb m.ok)
+      sends_by_lem x m (block_sent lent lent_long (Some 525) one_set m.last_one 525 b b vb vb m.ok)
 
   -- ---- another course: the first line of the first block, and the second line of the other
   pub mixed : List Call
@@ -115,7 +113,7 @@ module _ (lent : List ℕ) (lent_long : length lent ≡ 1716) (a b : List ℕ) (
   pub mixes_them : Mixes
   unfolding mixed
   mixes_them =
-      let x = block_sent lent lent_long Unknown no_settings (start 0 8).now 0 a b va vb (start_ok 0 8) in
+      let x = block_sent lent lent_long None no_settings (start 0 8).now 0 a b va vb (start_ok 0 8) in
       record {
         w₀ = x.first;
         w₁ = x.second;
@@ -156,7 +154,7 @@ module _ (lent : List ℕ) (lent_long : length lent ≡ 1716) (a b : List ℕ) (
       ∙ sym (ap (map (λ (s : Sent). s.words)) x.is)
 
   -- ---- a block is handed out: the values of the first block's first line, and of the other block's second line
-  handed_back : (u v : List ℕ) → handed_out (given_back 525 Unknown (first_of a u ∷ (second_of 0 a b v ∷ []))) ≡ record { kind = 1; values = as_laid 1440 a b } ∷ []
+  handed_back : (u v : List ℕ) → handed_out (given_back 525 None (first_of a u ∷ (second_of 0 a b v ∷ []))) ≡ record { kind = 1; values = as_laid 1440 a b } ∷ []
   unfolding given_back
   handed_back u v = refl
 
@@ -167,7 +165,7 @@ module _ (lent : List ℕ) (lent_long : length lent ≡ 1716) (a b : List ℕ) (
       let x = mixes_them in
       ap handed_out
       (demand_2.heard 0 8 mixed room long hs (subst (λ (l : List (List ℕ)). Reads (fresh 0 8) room l hs) (remain_is c x) r)
-      ∙ ap (given_back 525 Unknown) x.is)
+      ∙ ap (given_back 525 None) x.is)
       ∙ handed_back x.w₀ x.w₁
 
   -- ---- and no block survives: the first lost its second line, and the other its first

@@ -1,5 +1,6 @@
 -- Lines lent in order come to their ends: no line is begun behind one, each takes at most two calls more than its area has words, and any lines can be read.
 -- Assumes nothing.
+use Rattle.std.specs.Prelude.{None}
 use mathlib.Core.Path.{◌≡◌, refl, sym, ap, ◌∙◌}
 use mathlib.Core.Bool.{Bool, true, false, ◌||◌}
 use mathlib.Core.List.{List, [], ◌∷◌, ◌++◌}
@@ -10,7 +11,6 @@ use Rattle.lists.proofs.Tests.{true_false}
 use Rattle.line.specs.Systems.{system_of}
 use Rattle.line.specs.Layout.{area_length}
 use Rattle.line.specs.Check.{settings_of, line_fault}
-use Rattle.course.specs.declared.Place.TheVariants.{Shut}
 use Rattle.reader.specs.declared.state.Reader.{Reader}
 use Rattle.reader.specs.Reading.{read_fault, reading}
 use Rattle.reader.specs.Lending.{is_last, ends_within}
@@ -19,15 +19,15 @@ use Rattle.demands.specs.Hearing.{Heard, Lends, last, more, done, next, Readable
 use Rattle.demands.proofs.LineLends.{hears, refuses_line, leaves_line}
 
 -- ---- behind a line no line is begun
-pub shut_after : (st : Reader) (line room : List ℕ) (hs : List Heard) (st' : Reader) (room' : List ℕ) → st.place ≡ Shut
-    → Lends line st room hs st' room' → st'.place ≡ Shut
+pub shut_after : (st : Reader) (line room : List ℕ) (hs : List Heard) (st' : Reader) (room' : List ℕ) → st.place ≡ None
+    → Lends line st room hs st' room' → st'.place ≡ None
 shut_after st line room hs st' room' at lent = go (read_fault st (length line) (length room)) refl
   where
-    by : read_fault st (length line) (length room) ≡ 0 → (k : ℕ) → line_fault st.system st.mode line ≡ k → st'.place ≡ Shut
+    by : read_fault st (length line) (length room) ≡ 0 → (k : ℕ) → line_fault st.system st.mode line ≡ k → st'.place ≡ None
     by fit zero is = ap (λ (x : Reader). x.place) (hears st line room hs st' room' fit at is lent).state
     by fit (suc k) is = ap (λ (x : Reader). x.place) (refuses_line st line room hs st' room' fit at (suc k) is (λ z. omega arith) lent).state
 
-    go : (n : ℕ) → read_fault st (length line) (length room) ≡ n → st'.place ≡ Shut
+    go : (n : ℕ) → read_fault st (length line) (length room) ≡ n → st'.place ≡ None
     go zero e = by e _ refl
     go (suc k) e = ap (λ (x : Reader). x.place) (leaves_line st line room hs st' room' k e lent).state ∙ at
 
@@ -45,7 +45,7 @@ lends_within (suc n) st line room hs st' room' e (more {hs = ks} h k) =
     let x = reading st line room in
     omega (arith, lends_within n x.told.state line x.room ks st' room' (later (is_last x.told.event) _ h e) k)
 
-pub line_within : (st : Reader) (line room : List ℕ) → st.place ≡ Shut → (hs : List Heard) (st' : Reader) (room' : List ℕ) → Lends line st room hs st' room'
+pub line_within : (st : Reader) (line room : List ℕ) → st.place ≡ None → (hs : List Heard) (st' : Reader) (room' : List ℕ) → Lends line st room hs st' room'
     → length hs ≤ area_length (system_of st.system).payload (settings_of line).flag + 2
 line_within st line room at hs st' room' k = lends_within _ st line room hs st' room' (line_ends st line room at) k
 
@@ -69,7 +69,7 @@ lends_exist (suc n) st line room e =
     go false h k = let l = k (later (is_last (reading st line room).told.event) _ h e) in record { hs = _; st' = l.st'; room' = l.room'; lends = more h l.lends }
 
 -- any lines can be lent once each and in order
-pub readable : (st : Reader) (room : List ℕ) (lines : List (List ℕ)) → st.place ≡ Shut → Readable st room lines
+pub readable : (st : Reader) (room : List ℕ) (lines : List (List ℕ)) → st.place ≡ None → Readable st room lines
 readable st room [] at = record { heard = []; reads = record { st' = st; room' = room; reads_to = done } }
 readable st room (line ∷ lines) at =
     let calls = area_length (system_of st.system).payload (settings_of line).flag + 2 in

@@ -1,6 +1,7 @@
 -- A line lent until its end is reported: an accepted one, call by call, tells what the run over its area says; a refused one is refused at once.
 -- So the calls do to the reader what the line does to an ear (Ear.antt).
 -- Assumes nothing.
+use Rattle.std.specs.Prelude.{Option, Some, None}
 use mathlib.Core.Path.{◌≡◌, refl, sym, ap, ap₂, ◌∙◌, subst}
 use mathlib.Core.Bool.{Bool, true, false}
 use mathlib.Core.List.{List, [], ◌∷◌, ◌++◌}
@@ -17,8 +18,6 @@ use Rattle.line.specs.Systems.{system_of}
 use Rattle.line.specs.Fixed.{is_variable, places_of, size_of}
 use Rattle.line.specs.Layout.{payload_at}
 use Rattle.line.specs.Check.{number_of, settings_of, fits, line_fault}
-use Rattle.course.specs.declared.Place.{Place}
-use Rattle.course.specs.declared.Place.TheVariants.{Shut, At}
 use Rattle.course.specs.Course.{blocks_end}
 use Rattle.machine.specs.declared.phase.Phase.{Phase}
 use Rattle.machine.specs.declared.step.Met.{Met}
@@ -122,7 +121,7 @@ fixed_left mode block n m k p room ws vs x v c is left e =
 
 -- where a reader stands behind a walk from place q
 abbrev moved : Reader → ℕ → Walk → Reader
-moved st q x = becomes st st.last st.settings (At (q + x.answer.taken)) x.answer.phase
+moved st q x = becomes st st.last st.settings (Some (q + x.answer.taken)) x.answer.phase
 
 record Goes (st : Reader) (q : ℕ) (line room : List ℕ) (x : Walk) : Type 0 where
   out : rest_out st q line room ≡ met_heard x.answer.met x.room ++ rest_out (moved st q x) (q + x.answer.taken) line x.room
@@ -141,7 +140,7 @@ module _ (st : Reader) (q : ℕ) (line room : List ℕ) where
   unfolding rest_out rest_to words_from
   goes_by x l = record { out = l.out; to = l.to; none = l.none; still = l.still }
 
-  module _ (at : st.place ≡ At q) (r : Ready st line room) where
+  module _ (at : st.place ≡ Some q) (r : Ready st line room) where
     variable_goes : is_variable st.settings.block ≡ true → Goes st q line room (walk_of st.mode st.phase (words_from st q line) room)
     variable_goes v =
         let x = walk_of st.mode st.phase (words_from st q line) room in
@@ -176,7 +175,7 @@ module _ (st : Reader) (q : ℕ) (line room : List ℕ) where
 -- ---- the calls from place q of a begun line to its end
 pub record Rest (st : Reader) (q : ℕ) (line room : List ℕ) (hs : List Heard) (st' : Reader) (room' : List ℕ) : Type 0 where
   pub heard : hs ≡ rest_out st q line room ++ (is_end ∷ [])
-  pub state : st' ≡ becomes st st.last st.settings Shut (rest_to st q line room).phase
+  pub state : st' ≡ becomes st st.last st.settings None (rest_to st q line room).phase
   pub room_is : room' ≡ (rest_to st q line room).room
 
 abbrev heard_by : Reply → Heard
@@ -193,7 +192,7 @@ module _ (st : Reader) (q : ℕ) (line room : List ℕ) (x : Walk) (g : Goes st 
       let to : rest_to st q line room ≡ now x.answer.phase x.room = g.to ∙ g.still z in
       record {
         heard = ap {B = List Heard} (λ (l : List Heard). l ++ (is_end ∷ [])) (sym out);
-        state = ap (λ (n : Now). becomes st st.last st.settings Shut n.phase) (sym to);
+        state = ap (λ (n : Now). becomes st st.last st.settings None n.phase) (sym to);
         room_is = ap (λ (n : Now). n.room) (sym to);
       }
   last_step (Whole k n) e h = absurd (true_false (sym h))
@@ -207,40 +206,40 @@ module _ (st : Reader) (q : ℕ) (line room : List ℕ) (x : Walk) (g : Goes st 
       g.out ∙ ap {B = List Heard} (λ (l : List Heard). l ++ rest_out (moved st q x) (q + x.answer.taken) line x.room) first in
       record {
         heard = ap {B = List Heard} (λ (l : List Heard). h ∷ l) f.heard ∙ ap {B = List Heard} (λ (l : List Heard). l ++ (is_end ∷ [])) (sym out);
-        state = f.state ∙ ap (λ (n : Now). becomes st st.last st.settings Shut n.phase) (sym g.to);
+        state = f.state ∙ ap (λ (n : Now). becomes st st.last st.settings None n.phase) (sym g.to);
         room_is = f.room_is ∙ ap (λ (n : Now). n.room) (sym g.to);
       }
 
   -- a call that is not the last: those that follow go on behind the walk
   more_step : (met : Met) (hs : List Heard) (st' : Reader) (room' : List ℕ) → x.answer.met ≡ met
       → is_last (told_by st (q + x.answer.taken) x.answer.phase met).event ≡ false
-      → ((i : ℕ) → (told_by st (q + x.answer.taken) x.answer.phase met).state.place ≡ At i
+      → ((i : ℕ) → (told_by st (q + x.answer.taken) x.answer.phase met).state.place ≡ Some i
       → Rest (told_by st (q + x.answer.taken) x.answer.phase met).state i line x.room hs st' room')
       → Rest st q line room (heard_by (reply (told_by st (q + x.answer.taken) x.answer.phase met) x.room) ∷ hs) st' room'
   more_step Nothing hs st' room' e h k = absurd (true_false h)
   more_step (Whole j n) hs st' room' e h k = more_by (Whole j n) hs st' room' e _ refl (k (q + x.answer.taken) refl)
   more_step (Lost n) hs st' room' e h k = more_by (Lost n) hs st' room' e _ refl (k (q + x.answer.taken) refl)
 
-module _ (st : Reader) (q : ℕ) (line room : List ℕ) (fit : read_fault st (length line) (length room) ≡ 0) (at : st.place ≡ At q) where
+module _ (st : Reader) (q : ℕ) (line room : List ℕ) (fit : read_fault st (length line) (length room) ≡ 0) (at : st.place ≡ Some q) where
   abbrev walked : Walk
   walked = walk_from st q line room
 
   rest_last : is_last (reading st line room).told.event ≡ true
       → Rest st q line room (hear st line room ∷ []) (reading st line room).told.state (reading st line room).room
   rest_last h =
-      subst (λ (z : Reply). is_last z.told.event ≡ true → Rest st q line room (heard_by z ∷ []) z.told.state z.room) (sym (by_place st line room (At q) fit at))
+      subst (λ (z : Reply). is_last z.told.event ≡ true → Rest st q line room (heard_by z ∷ []) z.told.state z.room) (sym (by_place st line room (Some q) fit at))
       (last_step st q line room walked (walk_goes st q line room at (ready st line room fit)) walked.answer.met refl) h
 
   rest_more : (hs : List Heard) (st' : Reader) (room' : List ℕ) → is_last (reading st line room).told.event ≡ false
-      → ((i : ℕ) → (reading st line room).told.state.place ≡ At i → Rest (reading st line room).told.state i line (reading st line room).room hs st' room')
+      → ((i : ℕ) → (reading st line room).told.state.place ≡ Some i → Rest (reading st line room).told.state i line (reading st line room).room hs st' room')
       → Rest st q line room (hear st line room ∷ hs) st' room'
   rest_more hs st' room' h k =
-      subst (λ (z : Reply). is_last z.told.event ≡ false → ((i : ℕ) → z.told.state.place ≡ At i → Rest z.told.state i line z.room hs st' room')
-      → Rest st q line room (heard_by z ∷ hs) st' room') (sym (by_place st line room (At q) fit at))
+      subst (λ (z : Reply). is_last z.told.event ≡ false → ((i : ℕ) → z.told.state.place ≡ Some i → Rest z.told.state i line z.room hs st' room')
+      → Rest st q line room (heard_by z ∷ hs) st' room') (sym (by_place st line room (Some q) fit at))
       (more_step st q line room walked (walk_goes st q line room at (ready st line room fit)) walked.answer.met hs st' room' refl) h k
 
 pub from_place : (line : List ℕ) (st : Reader) (room : List ℕ) (hs : List Heard) (st' : Reader) (room' : List ℕ) → Lends line st room hs st' room'
-    → (q : ℕ) → st.place ≡ At q → read_fault st (length line) (length room) ≡ 0 → Rest st q line room hs st' room'
+    → (q : ℕ) → st.place ≡ Some q → read_fault st (length line) (length room) ≡ 0 → Rest st q line room hs st' room'
 from_place line st room hs st' room' (last h) q at fit = rest_last st q line room fit at h
 from_place line st room hs st' room' (more {hs = ks} h k) q at fit =
     rest_more st q line room fit at ks st' room' h (λ i f. from_place line _ _ ks st' room' k i f (call_moves st q line room fit at).fit)
@@ -274,7 +273,7 @@ pub record Takes (st : Reader) (room : List ℕ) (i : Input) (hs : List Heard) (
 
 -- begun, and then the calls from the line's start to its end
 begun_hears : (st : Reader) (n : ℕ) (t : Settings) (line room : List ℕ) (hs : List Heard) (st' : Reader) (room' : List ℕ)
-    → ((i : ℕ) → (begun st n t).state.place ≡ At i → Rest (begun st n t).state i line room hs st' room')
+    → ((i : ℕ) → (begun st n t).state.place ≡ Some i → Rest (begun st n t).state i line room hs st' room')
     → Takes st room (own n t (block_part st.system t line)) (heard_by (reply (begun st n t) room) ∷ hs) st' room'
 unfolding begun goes_on
 begun_hears st n t line room hs st' room' k =
@@ -283,7 +282,7 @@ begun_hears st n t line room hs st' room' k =
     let told : Heard = heard_by (reply (begun st n t) room) in
     record {
       heard = ap {B = List Heard} (λ (l : List Heard). told ∷ l) (f.heard ∙ ap {B = List Heard} (λ (l : List Heard). l ++ (is_end ∷ [])) (rest_out_lem first line room));
-      state = f.state ∙ ap (λ (x : Now). becomes st first.last t Shut x.phase) (rest_to_lem first line room);
+      state = f.state ∙ ap (λ (x : Now). becomes st first.last t None x.phase) (rest_to_lem first line room);
       room_is = f.room_is ∙ ap (λ (x : Now). x.room) (rest_to_lem first line room);
     }
 
@@ -297,15 +296,15 @@ unfolding begun
 begun_same st n t room = record { system = refl; mode = refl; room_long = refl }
 
 -- ---- every call that is not refused with 1 or 2 keeps the system, the mode and the room's length; so the next one is not refused so either
-shut_same : (st : Reader) (line room : List ℕ) → read_fault st (length line) (length room) ≡ 0 → st.place ≡ Shut → (k : ℕ) → line_fault st.system st.mode line ≡ k
+shut_same : (st : Reader) (line room : List ℕ) → read_fault st (length line) (length room) ≡ 0 → st.place ≡ None → (k : ℕ) → line_fault st.system st.mode line ≡ k
     → Same st room (reading st line room)
 shut_same st line room fit at zero e = subst (Same st room) (sym (accepts st line room fit at e)) (begun_same st (number_of line) (settings_of line) room)
 shut_same st line room fit at (suc k) e =
     subst (Same st room) (sym (refuses st line room fit at (suc k) e (λ z. omega arith))) (record { system = refl; mode = refl; room_long = refl })
 
-same_by : (st : Reader) (line room : List ℕ) → read_fault st (length line) (length room) ≡ 0 → (p : Place) → st.place ≡ p → Same st room (reading st line room)
-same_by st line room fit Shut at = shut_same st line room fit at (line_fault st.system st.mode line) refl
-same_by st line room fit (At q) at = (call_moves st q line room fit at).stands.same
+same_by : (st : Reader) (line room : List ℕ) → read_fault st (length line) (length room) ≡ 0 → (p : Option ℕ) → st.place ≡ p → Same st room (reading st line room)
+same_by st line room fit None at = shut_same st line room fit at (line_fault st.system st.mode line) refl
+same_by st line room fit (Some q) at = (call_moves st q line room fit at).stands.same
 
 pub call_same : (st : Reader) (line room : List ℕ) → read_fault st (length line) (length room) ≡ 0 → Same st room (reading st line room)
 call_same st line room fit = same_by st line room fit st.place refl
@@ -319,7 +318,7 @@ fit_next st line room fit =
     (record { fit = ap₂ (λ (i j : ℕ). fits i j line) s.system s.mode ∙ r.fit; long = s.room_long ∙ r.long; state = read_possible st line room r.state })
 
 -- ---- an accepted line
-module _ (st : Reader) (line room : List ℕ) (fit : read_fault st (length line) (length room) ≡ 0) (at : st.place ≡ Shut)
+module _ (st : Reader) (line room : List ℕ) (fit : read_fault st (length line) (length room) ≡ 0) (at : st.place ≡ None)
     (ok : line_fault st.system st.mode line ≡ 0) where
   abbrev number : ℕ
   number = number_of line
@@ -332,14 +331,14 @@ module _ (st : Reader) (line room : List ℕ) (fit : read_fault st (length line)
       true_false (sym h ∙ ap (λ (z : Reply). is_last z.told.event) (accepts st line room fit at ok) ∙ begun_goes st number settings)
 
   accepted_more : (hs : List Heard) (st' : Reader) (room' : List ℕ)
-      → ((i : ℕ) → (reading st line room).told.state.place ≡ At i → Rest (reading st line room).told.state i line (reading st line room).room hs st' room')
+      → ((i : ℕ) → (reading st line room).told.state.place ≡ Some i → Rest (reading st line room).told.state i line (reading st line room).room hs st' room')
       → Takes st room (own (number_of line) (settings_of line) (block_part st.system (settings_of line) line)) (hear st line room ∷ hs) st' room'
   accepted_more hs st' room' k =
-      subst (λ (z : Reply). ((i : ℕ) → z.told.state.place ≡ At i → Rest z.told.state i line z.room hs st' room')
+      subst (λ (z : Reply). ((i : ℕ) → z.told.state.place ≡ Some i → Rest z.told.state i line z.room hs st' room')
       → Takes st room (own number settings (block_part st.system settings line)) (heard_by z ∷ hs) st' room') (sym (accepts st line room fit at ok))
       (begun_hears st number settings line room hs st' room') k
 
-pub hears : (st : Reader) (line room : List ℕ) (hs : List Heard) (st' : Reader) (room' : List ℕ) → read_fault st (length line) (length room) ≡ 0 → st.place ≡ Shut
+pub hears : (st : Reader) (line room : List ℕ) (hs : List Heard) (st' : Reader) (room' : List ℕ) → read_fault st (length line) (length room) ≡ 0 → st.place ≡ None
     → line_fault st.system st.mode line ≡ 0 → Lends line st room hs st' room'
     → Takes st room (own (number_of line) (settings_of line) (block_part st.system (settings_of line) line)) hs st' room'
 hears st line room hs st' room' fit at ok (last h) = absurd (accepted_last st line room fit at ok h)
@@ -347,7 +346,7 @@ hears st line room hs st' room' fit at ok (more {hs = ks} h k) =
     accepted_more st line room fit at ok ks st' room' (λ i f. from_place line _ _ ks st' room' k i f (fit_next st line room fit))
 
 -- ---- a refused line
-pub refuses_line : (st : Reader) (line room : List ℕ) (hs : List Heard) (st' : Reader) (room' : List ℕ) → read_fault st (length line) (length room) ≡ 0 → st.place ≡ Shut
+pub refuses_line : (st : Reader) (line room : List ℕ) (hs : List Heard) (st' : Reader) (room' : List ℕ) → read_fault st (length line) (length room) ≡ 0 → st.place ≡ None
     → (k : ℕ) → line_fault st.system st.mode line ≡ k → (k ≡ 0 → ⊥) → Lends line st room hs st' room' → Takes st room (refusal k) hs st' room'
 refuses_line st line room hs st' room' fit at k is bad (last h) =
     subst (λ (z : Reply). Takes st room (refusal k) (heard_by z ∷ []) z.told.state z.room) (sym (refuses st line room fit at k is bad))

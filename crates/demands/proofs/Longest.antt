@@ -1,6 +1,7 @@
 -- A line that takes P + 2 calls: a reader that awaits a type behind line 1 is lent line 2, with the same settings and an area of P times 309h. It is begun, the open
 -- phase is kept, each word drops what the one before began, and then comes the end. Shown for every P.
 -- Assumes nothing.
+use Rattle.std.specs.Prelude.{Some, None}
 use Prim.Native.Nat.{ℕ, zero, suc, ◌+◌, ◌-◌, ◌≤◌}
 use mathlib.Core.Bool.{Bool, true, false, ◌&&◌, ◌||◌}
 use mathlib.Core.List.{List, []}
@@ -22,8 +23,6 @@ use Rattle.line.specs.Settings.{Held, settings_faults, settings_fault, same_sett
 use Rattle.line.specs.Layout.{area_length, line_words, area_of}
 use Rattle.line.specs.Check.{legal, fits_length, line_fault, checked_from, checked_of}
 use Rattle.line.proofs.Lines.{Accepted, accepted}
-use Rattle.course.specs.declared.Last.TheVariants.{Number}
-use Rattle.course.specs.declared.Place.TheVariants.{Shut, At}
 use Rattle.course.specs.Course.{next_number, blocks_end}
 use Rattle.machine.specs.declared.phase.Phase.TheVariants.{Idle, Kind}
 use Rattle.machine.specs.Machine.{again, step_of}
@@ -58,8 +57,8 @@ held code = record { to = refl; from = refl; five = refl; to_bytes = refl; from_
 record Fits (system : ℕ) : Type 0 where
   two : 2 ≤ (system_of system).lines
   clean : settings_fault system (settings (system_of system).code) ≡ 0
-  possible : (mode : ℕ) → impossible (record { system = system; mode = mode; last = Number 1; settings = settings (system_of system).code; place = Shut; phase = Kind }) ≡ false
-  goes : (mode : ℕ) → goes_on (record { system = system; mode = mode; last = Number 1; settings = settings (system_of system).code; place = Shut; phase = Kind }) 2 (settings (system_of system).code) ≡ true
+  possible : (mode : ℕ) → impossible (record { system = system; mode = mode; last = Some 1; settings = settings (system_of system).code; place = None; phase = Kind }) ≡ false
+  goes : (mode : ℕ) → goes_on (record { system = system; mode = mode; last = Some 1; settings = settings (system_of system).code; place = None; phase = Kind }) 2 (settings (system_of system).code) ≡ true
 
 fits_all : (system : ℕ) → is_system system ≡ true → Fits system
 unfolding is_system settings settings_fault settings_faults block_refused impossible_in goes_on same_settings next_number folded pick
@@ -93,7 +92,7 @@ module _ (system mode : ℕ) (known : is_system system ≡ true) (moded : is_mod
   p = (system_of system).payload
 
   abbrev st : Reader
-  st = record { system = system; mode = mode; last = Number 1; settings = settings (system_of system).code; place = Shut; phase = Kind }
+  st = record { system = system; mode = mode; last = Some 1; settings = settings (system_of system).code; place = None; phase = Kind }
 
   abbrev line : List ℕ
   line = line_words (system_of system) false false 2 (settings (system_of system).code) [] (replicate (system_of system).payload 0x309)
@@ -130,14 +129,14 @@ module _ (system mode : ℕ) (known : is_system system ≡ true) (moded : is_mod
 
   -- ---- the calls on it
   abbrev at : ℕ → Reader
-  at q = becomes st (Number 2) t (At q) Kind
+  at q = becomes st (Some 2) t (Some q) Kind
 
   first_call : reading st line room ≡ reply (record { event = (begun st 2 t).event; state = at 0 }) room
   unfolding starts begun pick
   first_call =
-      by_place st line room Shut fit refl
+      by_place st line room None fit refl
       ∙ ap (λ (c : Checked). reply (starts st c) room) built.checked
-      ∙ ap (λ (b : Bool). reply (record { event = (begun st 2 t).event; state = becomes st (Number 2) t (At 0) (pick b Kind Idle) }) room) (f.goes mode)
+      ∙ ap (λ (b : Bool). reply (record { event = (begun st 2 t).event; state = becomes st (Some 2) t (Some 0) (pick b Kind Idle) }) room) (f.goes mode)
 
   words : (q n : ℕ) → q + n ≡ (system_of system).payload → words_from (at q) q line ≡ replicate n 0x309
   unfolding settings area_of blocks_end pick
@@ -155,7 +154,7 @@ module _ (system mode : ℕ) (known : is_system system ≡ true) (moded : is_mod
       → reading (at q) line room ≡ reply (record { event = Drop 1; state = at (q + 1) }) room
   unfolding walk_from settings stored pick
   next_call q n e ok =
-      by_place (at q) line room (At q) ok refl
+      by_place (at q) line room (Some q) ok refl
       ∙ ap (goes_from (at q) q)
       (ap (λ (ws : List ℕ). walk_of mode Kind ws room) (words q (suc n) e)
       ∙ word_stops mode Kind 0x309 (replicate n 0x309) room again (again_step mode (length room)) room refl refl)

@@ -1,5 +1,6 @@
 -- A run of removed lines shorter than one frame is noticed: the line behind it does not have the next number, and a line behind a kept one has it.
 -- Assumes nothing.
+use Rattle.std.specs.Prelude.{Option, Some, None}
 use Prim.Native.Nat.{ℕ, zero, suc, ◌+◌, ◌≤◌, ◌<◌}
 use mathlib.Core.Bool.{Bool, true, false}
 use mathlib.Core.List.{List, [], ◌∷◌}
@@ -8,8 +9,6 @@ use native.Mathlib.Omega.{arith}
 use lib.Dec.{ltb}
 use borrow.Author.Tests.{eq-eqb, ne_eqb, ltb-true, ltb-false, lt-ltb, le-ltb}
 use Rattle.lists.proofs.Tests.{true_false, pick_true, pick_false}
-use Rattle.course.specs.declared.Last.{Last}
-use Rattle.course.specs.declared.Last.TheVariants.{Unknown, Number}
 use Rattle.course.specs.Course.{next_number}
 use Rattle.writer.specs.Opening.{is_next}
 use Rattle.demands.specs.Sending.{Sent}
@@ -72,21 +71,21 @@ steps_move lines j x p l q k e = by (ltb lines (x + j)) refl
     by false t = let u = steps_up lines j x (ltb-false lines (x + j) t) in omega arith
 
 -- ---- the last number that the reader has, and the number of the line before: r steps apart
-abbrev Apart : ℕ → Last → ℕ → ℕ → Type 0
-Apart lines Unknown r x = Unit {0}
-Apart lines (Number y) r x = x ≡ steps lines r y
+abbrev Apart : ℕ → Option ℕ → ℕ → ℕ → Type 0
+Apart lines None r x = Unit {0}
+Apart lines (Some y) r x = x ≡ steps lines r y
 
-far : (lines : ℕ) (before : Last) (r x n : ℕ) → Apart lines before r x → n ≡ next_number lines x → 1 ≤ r → r < lines → is_next lines before n ≡ false
-far lines Unknown r x n a e least less = refl
-far lines (Number y) r x n a e least less =
+far : (lines : ℕ) (before : Option ℕ) (r x n : ℕ) → Apart lines before r x → n ≡ next_number lines x → 1 ≤ r → r < lines → is_next lines before n ≡ false
+far lines None r x n a e least less = refl
+far lines (Some y) r x n a e least less =
     let i = next_in lines y (omega arith) in
     let is : steps lines r (next_number lines y) ≡ n = steps_next lines r y ∙ ap (next_number lines) (sym a) ∙ sym e in
     ne_eqb n (next_number lines y) (λ h. steps_move lines r (next_number lines y) i.0 i.1 least less (is ∙ h))
 
 -- none removed: the line has the next number
-near : (lines : ℕ) (before : Last) (r x n : ℕ) → Apart lines before r x → n ≡ next_number lines x → r ≡ 0 → is_known before ≡ true → is_next lines before n ≡ true
-near lines Unknown r x n a e z k = absurd (true_false (sym k))
-near lines (Number y) r x n a e z k = eq-eqb n (next_number lines y) (e ∙ ap (next_number lines) (a ∙ ap (λ (j : ℕ). steps lines j y) z))
+near : (lines : ℕ) (before : Option ℕ) (r x n : ℕ) → Apart lines before r x → n ≡ next_number lines x → r ≡ 0 → is_known before ≡ true → is_next lines before n ≡ true
+near lines None r x n a e z k = absurd (true_false (sym k))
+near lines (Some y) r x n a e z k = eq-eqb n (next_number lines y) (e ∙ ap (next_number lines) (a ∙ ap (λ (j : ℕ). steps lines j y) z))
 
 -- the longest run is no shorter than the one before it
 run_least : (r : ℕ) (fs : List Fate) → r ≤ run_from r fs
@@ -95,31 +94,31 @@ run_least r (kept ∷ fs) = omega arith
 run_least r (removed ∷ fs) = omega (arith, run_least (suc r) fs)
 run_least r (replaced ws ∷ fs) = omega arith
 
-noticed_by : (lines : ℕ) (told : Bool) (fs : List Fate) (ss : List Sent) (before : Last) (gone : Bool) (r x : ℕ) → Follows lines x ss → run_from r fs < lines
+noticed_by : (lines : ℕ) (told : Bool) (fs : List Fate) (ss : List Sent) (before : Option ℕ) (gone : Bool) (r x : ℕ) → Follows lines x ss → run_from r fs < lines
     → (gone ≡ true → 1 ≤ r) → (gone ≡ false → r ≡ 0) → Apart lines before r x → Noticed lines told before gone fs ss
 noticed_by lines told [] ss before gone r x follows runs least none apart = tt
 noticed_by lines told (f ∷ fs) [] before gone r x follows runs least none apart = tt
 noticed_by lines told (kept ∷ fs) (s ∷ ss) before gone r x follows runs least none apart = (
   ((λ g. far lines before r x s.number apart follows.0 (least g) (omega (arith, runs))), λ t g k. near lines before r x s.number apart follows.0 (none g) k),
-  noticed_by lines told fs ss (Number s.number) false 0 s.number follows.1 (omega (arith, runs)) (λ g. absurd (true_false (sym g))) (λ g. refl) refl,
+  noticed_by lines told fs ss (Some s.number) false 0 s.number follows.1 (omega (arith, runs)) (λ g. absurd (true_false (sym g))) (λ g. refl) refl,
 )
 noticed_by lines told (removed ∷ fs) (s ∷ ss) before gone r x follows runs least none apart =
     noticed_by lines told fs ss before true (suc r) s.number follows.1 runs (λ g. omega arith) (λ g. absurd (true_false g)) (further before apart)
   where
-    further : (l : Last) → Apart lines l r x → Apart lines l (suc r) s.number
-    further Unknown a = tt
-    further (Number y) a = follows.0 ∙ ap (next_number lines) a
+    further : (l : Option ℕ) → Apart lines l r x → Apart lines l (suc r) s.number
+    further None a = tt
+    further (Some y) a = follows.0 ∙ ap (next_number lines) a
 noticed_by lines told (replaced ws ∷ fs) (s ∷ ss) before gone r x follows runs least none apart =
-    noticed_by lines told fs ss Unknown false 0 s.number follows.1 (omega (arith, runs)) (λ g. absurd (true_false (sym g))) (λ g. refl) tt
+    noticed_by lines told fs ss None false 0 s.number follows.1 (omega (arith, runs)) (λ g. absurd (true_false (sym g))) (λ g. refl) tt
 
-pub noticed : (lines : ℕ) (told : Bool) (fs : List Fate) (ss : List Sent) → longest_run fs < lines → Consecutive lines ss → Noticed lines told Unknown false fs ss
+pub noticed : (lines : ℕ) (told : Bool) (fs : List Fate) (ss : List Sent) → longest_run fs < lines → Consecutive lines ss → Noticed lines told None false fs ss
 noticed lines told [] ss runs numbers = tt
 noticed lines told (f ∷ fs) [] runs numbers = tt
 noticed lines told (kept ∷ fs) (s ∷ ss) runs numbers = (
   ((λ g. absurd (true_false (sym g))), λ t g k. absurd (true_false (sym k))),
-  noticed_by lines told fs ss (Number s.number) false 0 s.number numbers (omega (arith, runs)) (λ g. absurd (true_false (sym g))) (λ g. refl) refl,
+  noticed_by lines told fs ss (Some s.number) false 0 s.number numbers (omega (arith, runs)) (λ g. absurd (true_false (sym g))) (λ g. refl) refl,
 )
 noticed lines told (removed ∷ fs) (s ∷ ss) runs numbers =
-    noticed_by lines told fs ss Unknown true 1 s.number numbers runs (λ g. omega arith) (λ g. absurd (true_false g)) tt
+    noticed_by lines told fs ss None true 1 s.number numbers runs (λ g. omega arith) (λ g. absurd (true_false g)) tt
 noticed lines told (replaced ws ∷ fs) (s ∷ ss) runs numbers =
-    noticed_by lines told fs ss Unknown false 0 s.number numbers (omega (arith, runs)) (λ g. absurd (true_false (sym g))) (λ g. refl) tt
+    noticed_by lines told fs ss None false 0 s.number numbers (omega (arith, runs)) (λ g. absurd (true_false (sym g))) (λ g. refl) tt

@@ -1,5 +1,6 @@
 -- Each field of `Nulls`, cited at an instance that a weaker field would not give. The types are written out in the words of the crates below.
 -- Assumes nothing.
+use Rattle.std.specs.Prelude.{Option, Some, None}
 use Prim.Native.Nat.{ℕ}
 use mathlib.Core.Bool.{true, false, not}
 use mathlib.Core.List.{List, [], ◌∷◌}
@@ -18,9 +19,6 @@ use Rattle.line.specs.declared.settings.Settings.{Settings}
 use Rattle.line.specs.Systems.{system_of}
 use Rattle.line.specs.Fixed.{is_variable}
 use Rattle.line.specs.Check.{number_of, settings_of, line_fault}
-use Rattle.course.specs.declared.Last.TheVariants.{Number}
-use Rattle.course.specs.declared.Place.{Place}
-use Rattle.course.specs.declared.Place.TheVariants.{Shut, At}
 use Rattle.writer.specs.declared.state.Writer.{Writer}
 use Rattle.writer.specs.declared.state.Laid.TheVariants.{Finished, Unfinished}
 use Rattle.writer.specs.State.{laid_of}
@@ -62,47 +60,47 @@ pub fourth_open : (a b c : ℕ) → is_busy (Fourth Nulled a b c) ≡ true
 fourth_open a b c = nulls.is_open (Fourth Nulled a b c) refl
 
 -- a reader of system 1 in 9-bit mode, after line 7, with 60 values collected of a null or a block of 100
-abbrev pub reads : Settings → Place → Phase → Reader
-reads s place p = record { system = 1; mode = 9; last = Number 7; settings = s; place = place; phase = p }
+abbrev pub reads : Settings → Option ℕ → Phase → Reader
+reads s place p = record { system = 1; mode = 9; last = Some 7; settings = s; place = place; phase = p }
 
-abbrev pub within : Settings → Place → Reader
+abbrev pub within : Settings → Option ℕ → Reader
 within s place = reads s place (Data Nulled 100 60)
 
-pub as_possible : (s : Settings) (place : Place) → impossible (within s place) ≡ impossible (reads s place (Data (Typed 0) 100 60))
+pub as_possible : (s : Settings) (place : Option ℕ) → impossible (within s place) ≡ impossible (reads s place (Data (Typed 0) 100 60))
 as_possible s place = nulls.possible (within s place) 0
 
 -- refused with 15: dropped, and told so
-pub refused_15 : (s : Settings) (line room : List ℕ) → read_fault (within s Shut) (length line) (length room) ≡ 0 → line_fault 1 9 line ≡ 15
-    → (event_numbers (reading (within s Shut) line room).told.event ≡ pos 0 ∷ pos 15 ∷ pos 1 ∷ [])
-    × (phase_numbers (reading (within s Shut) line room).told.state.phase ≡ 0 ∷ [])
+pub refused_15 : (s : Settings) (line room : List ℕ) → read_fault (within s None) (length line) (length room) ≡ 0 → line_fault 1 9 line ≡ 15
+    → (event_numbers (reading (within s None) line room).told.event ≡ pos 0 ∷ pos 15 ∷ pos 1 ∷ [])
+    × (phase_numbers (reading (within s None) line room).told.state.phase ≡ 0 ∷ [])
 refused_15 s line room ok fault =
-    let e = nulls.refused_drops (within s Shut) line room ok refl refl 15 fault (omega arith) in
+    let e = nulls.refused_drops (within s None) line room ok refl refl 15 fault (omega arith) in
     (ap (λ (x : Reply). event_numbers x.told.event) e, ap (λ (x : Reply). phase_numbers x.told.state.phase) e)
 
 -- a line that does not go on with it, and one that does
-pub begun_off : (s : Settings) (line room : List ℕ) → read_fault (within s Shut) (length line) (length room) ≡ 0 → line_fault 1 9 line ≡ 0
-    → goes_on (within s Shut) (number_of line) (settings_of line) ≡ false
-    → (event_numbers (reading (within s Shut) line room).told.event ≡ pos 1 ∷ pos (number_of line) ∷ pos 1 ∷ jump_numbers (jump_from (system_of 1).lines (Number 7) (number_of line)))
-    × (phase_numbers (reading (within s Shut) line room).told.state.phase ≡ 0 ∷ [])
+pub begun_off : (s : Settings) (line room : List ℕ) → read_fault (within s None) (length line) (length room) ≡ 0 → line_fault 1 9 line ≡ 0
+    → goes_on (within s None) (number_of line) (settings_of line) ≡ false
+    → (event_numbers (reading (within s None) line room).told.event ≡ pos 1 ∷ pos (number_of line) ∷ pos 1 ∷ jump_numbers (jump_from (system_of 1).lines (Some 7) (number_of line)))
+    × (phase_numbers (reading (within s None) line room).told.state.phase ≡ 0 ∷ [])
 begun_off s line room ok fault off =
-    let e = nulls.begun_drops (within s Shut) line room ok refl refl fault off in
+    let e = nulls.begun_drops (within s None) line room ok refl refl fault off in
     (ap (λ (x : Reply). event_numbers x.told.event) e, ap (λ (x : Reply). phase_numbers x.told.state.phase) e)
 
-pub begun_on : (s : Settings) (line room : List ℕ) → read_fault (within s Shut) (length line) (length room) ≡ 0 → line_fault 1 9 line ≡ 0
-    → goes_on (within s Shut) (number_of line) (settings_of line) ≡ true
-    → (event_numbers (reading (within s Shut) line room).told.event ≡ pos 1 ∷ pos (number_of line) ∷ pos 0 ∷ jump_numbers (jump_from (system_of 1).lines (Number 7) (number_of line)))
-    × (phase_numbers (reading (within s Shut) line room).told.state.phase ≡ 5 ∷ 100 ∷ 60 ∷ [])
+pub begun_on : (s : Settings) (line room : List ℕ) → read_fault (within s None) (length line) (length room) ≡ 0 → line_fault 1 9 line ≡ 0
+    → goes_on (within s None) (number_of line) (settings_of line) ≡ true
+    → (event_numbers (reading (within s None) line room).told.event ≡ pos 1 ∷ pos (number_of line) ∷ pos 0 ∷ jump_numbers (jump_from (system_of 1).lines (Some 7) (number_of line)))
+    × (phase_numbers (reading (within s None) line room).told.state.phase ≡ 5 ∷ 100 ∷ 60 ∷ [])
 begun_on s line room ok fault goes =
-    let e = nulls.begun_keeps (within s Shut) line room ok refl refl fault goes in
+    let e = nulls.begun_keeps (within s None) line room ok refl refl fault goes in
     (ap (λ (x : Reply). event_numbers x.told.event) e, ap (λ (x : Reply). phase_numbers x.told.state.phase) e)
 
 -- a line that ends in a null, of which one count byte was read
-pub ends_open : (s : Settings) (line room r : List ℕ) (n : ℕ) → read_fault (within s (At 3)) (length line) (length room) ≡ 0
-    → walk_from (within s (At 3)) 3 line room ≡ walked_to (Second Nulled 6) Nothing n r
-    → (event_numbers (reading (within s (At 3)) line room).told.event ≡ pos 4 ∷ [])
-    × (phase_numbers (reading (within s (At 3)) line room).told.state.phase ≡ 4 ∷ 6 ∷ [])
+pub ends_open : (s : Settings) (line room r : List ℕ) (n : ℕ) → read_fault (within s (Some 3)) (length line) (length room) ≡ 0
+    → walk_from (within s (Some 3)) 3 line room ≡ walked_to (Second Nulled 6) Nothing n r
+    → (event_numbers (reading (within s (Some 3)) line room).told.event ≡ pos 4 ∷ [])
+    × (phase_numbers (reading (within s (Some 3)) line room).told.state.phase ≡ 4 ∷ 6 ∷ [])
 ends_open s line room r n ok is =
-    let e = nulls.end_keeps (within s (At 3)) 3 line room ok refl (Second Nulled 6) n r refl is in
+    let e = nulls.end_keeps (within s (Some 3)) 3 line room ok refl (Second Nulled 6) n r refl is in
     (ap (λ (x : Reply). event_numbers x.told.event) e, ap (λ (x : Reply). phase_numbers x.told.state.phase) e)
 
 -- ---- a whole null

@@ -1,5 +1,6 @@
 -- Nulls, proved: the statement is specs/Nulls.antt.
 -- Assumes nothing.
+use Rattle.std.specs.Prelude.{Some, None}
 use Prim.Native.Nat.{ℕ, zero, suc, ◌+◌, ◌/◌, ◌%◌, ◌≤◌, ◌<◌}
 use mathlib.Core.Bool.{Bool, true, false, ◌&&◌, ◌||◌, not}
 use mathlib.Core.List.{List, [], ◌∷◌, ◌++◌, map, append_assoc}
@@ -24,8 +25,6 @@ use Rattle.line.specs.declared.settings.Settings.{Settings}
 use Rattle.line.specs.Systems.{system_of}
 use Rattle.line.specs.Fixed.{is_variable}
 use Rattle.line.specs.Check.{number_of, settings_of}
-use Rattle.course.specs.declared.Last.TheVariants.{Unknown, Number}
-use Rattle.course.specs.declared.Place.TheVariants.{Shut, At}
 use Rattle.writer.specs.declared.state.Writer.{Writer}
 use Rattle.writer.specs.State.{most, laid_of}
 use Rattle.writer.specs.Block.{count_words, block_words, fixed_words, words_in}
@@ -138,13 +137,13 @@ possible_by st k (Data x n m) = refl
 begun_is : (st : Reader) (n : ℕ) (t : Settings) (room : List ℕ) (busy on : Bool) → is_busy st.phase ≡ busy → goes_on st n t ≡ on
     → reply (begun st n t) room ≡ reply (record {
       event = Begun n (jump_from (system_of st.system).lines st.last n) (busy && not on);
-      state = becomes st (Number n) t (At 0) (pick on st.phase Idle);
+      state = becomes st (Some n) t (Some 0) (pick on st.phase Idle);
     }) room
 unfolding begun
 begun_is st n t room busy on e g =
     ap₂ (λ (x y : Bool). reply (record {
       event = Begun n (jump_from (system_of st.system).lines st.last n) (x && not y);
-      state = becomes st (Number n) t (At 0) (pick y st.phase Idle);
+      state = becomes st (Some n) t (Some 0) (pick y st.phase Idle);
     }) room) e g
 
 -- ---- the words of a null
@@ -257,12 +256,12 @@ nulls = record {
   possible = λ st k. possible_by st k st.phase;
   refused_drops = λ st line room ok shut e k is some.
       refuses st line room ok shut k is (λ z. omega arith)
-      ∙ ap (λ (b : Bool). reply (record { event = Refused k b; state = becomes st Unknown st.settings Shut Idle }) room) (open_by st.phase e);
+      ∙ ap (λ (b : Bool). reply (record { event = Refused k b; state = becomes st None st.settings None Idle }) room) (open_by st.phase e);
   begun_drops = λ st line room ok shut e accepted off.
       accepts st line room ok shut accepted ∙ begun_is st (number_of line) (settings_of line) room true false (open_by st.phase e) off;
   begun_keeps = λ st line room ok shut e accepted goes_on.
       accepts st line room ok shut accepted ∙ begun_is st (number_of line) (settings_of line) room true true (open_by st.phase e) goes_on;
-  end_keeps = λ st q line room ok at p n r e is. by_place st line room (At q) ok at ∙ ap (goes_from st q) is;
+  end_keeps = λ st q line room ok at p n r e is. by_place st line room (Some q) ok at ∙ ap (goes_from st q) is;
   not_handed_out = whole;
   place_skipped = skipped;
 }

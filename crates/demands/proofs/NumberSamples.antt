@@ -1,5 +1,6 @@
 -- 01's numbers for what a reading call reports, for what an addition answers, and for the phase: each case once, in numbers.
 -- Assumes nothing.
+use Rattle.std.specs.Prelude.{Some, None}
 use mathlib.Core.Bool.{true, false}
 use mathlib.Core.List.{[], ◌∷◌, map}
 use mathlib.Core.Path.{◌≡◌, refl}
@@ -10,13 +11,12 @@ use Rattle.machine.specs.Phases.{phase_numbers}
 use Rattle.writer.specs.declared.state.Answer.TheVariants.{Refused as NotDone, Done}
 use Rattle.writer.specs.declared.state.Laid.TheVariants.{Refused as NotLaid, Finished, Unfinished}
 use Rattle.writer.specs.Answers.{answer_numbers, laid_numbers}
-use Rattle.reader.specs.declared.jump.Jump.TheVariants.{Unknown, Known}
 use Rattle.reader.specs.declared.state.Event.TheVariants.{Refused, Begun, Block, Drop, End}
 use Rattle.reader.specs.Events.{event_numbers}
 
 -- refused with 16, and a block was dropped; begun with 20 and no jump known; with 525 and a jump of -1; with 1, a jump of 3 and a block dropped;
 -- a block of type 7 and 5 values; drop 4; the line's end
-pub event_numbers_lem : map event_numbers (Refused 16 true ∷ Refused 3 false ∷ Begun 20 Unknown false ∷ Begun 525 (Known (negsuc 0)) false ∷ Begun 1 (Known (pos 3)) true ∷ Block 7 5 ∷ Drop 4 ∷ End ∷ [])
+pub event_numbers_lem : map event_numbers (Refused 16 true ∷ Refused 3 false ∷ Begun 20 None false ∷ Begun 525 (Some (negsuc 0)) false ∷ Begun 1 (Some (pos 3)) true ∷ Block 7 5 ∷ Drop 4 ∷ End ∷ [])
     ≡ (pos 0 ∷ pos 16 ∷ pos 1 ∷ []) ∷ (pos 0 ∷ pos 3 ∷ pos 0 ∷ []) ∷ (pos 1 ∷ pos 20 ∷ pos 0 ∷ []) ∷ (pos 1 ∷ pos 525 ∷ pos 0 ∷ negsuc 0 ∷ [])
     ∷ (pos 1 ∷ pos 1 ∷ pos 1 ∷ pos 3 ∷ []) ∷ (pos 2 ∷ pos 7 ∷ pos 5 ∷ []) ∷ (pos 3 ∷ pos 4 ∷ []) ∷ (pos 4 ∷ []) ∷ []
 event_numbers_lem = refl

@@ -1,5 +1,6 @@
 -- What an accepted call on the writer says of the desk.
 -- Assumes nothing.
+use Rattle.std.specs.Prelude.{Some, None}
 use Prim.Native.Nat.{ℕ, ◌+◌, ◌≤◌}
 use mathlib.Core.Bool.{Bool, true, false}
 use mathlib.Core.List.{List, [], ◌∷◌, ◌++◌}
@@ -11,8 +12,6 @@ use Rattle.line.specs.Settings.{same_settings}
 use Rattle.line.specs.Fixed.{is_variable, size_of, places_of}
 use Rattle.line.specs.Layout.{area_length, line_words}
 use Rattle.line.proofs.Lines.{Accepted}
-use Rattle.course.specs.declared.Last.TheVariants.{Number}
-use Rattle.course.specs.declared.Place.TheVariants.{Shut, At}
 use Rattle.course.specs.Course.{is_at}
 use Rattle.writer.specs.declared.state.Laid.TheVariants.{Finished, Unfinished}
 use Rattle.writer.specs.State.{most, is_part, laid_of}
@@ -29,10 +28,10 @@ use Rattle.demands.specs.Sending.{Desk, values_now, piece_now, joined_pieces}
 
 -- opened: the state, and that an unfinished block goes on with the next number and the same settings
 pub record Opens (system : ℕ) (d : Desk) (f v : Bool) (n : ℕ) (t : Settings) (lent : List ℕ) : Type 0 where
-  pub was_shut : d.writer.place ≡ Shut
-  pub place : (opening d.writer f v n t lent).state.place ≡ At 0
+  pub was_shut : d.writer.place ≡ None
+  pub place : (opening d.writer f v n t lent).state.place ≡ Some 0
   pub rest : (opening d.writer f v n t lent).state.rest ≡ d.writer.rest
-  pub last : (opening d.writer f v n t lent).state.last ≡ Number n
+  pub last : (opening d.writer f v n t lent).state.last ≡ Some n
   pub settings : (opening d.writer f v n t lent).state.settings ≡ t
   pub goes_on : is_part d.writer.rest ≡ true → (same_settings t d.writer.settings ≡ true) × (is_next (system_of system).lines d.writer.last n ≡ true)
 
@@ -79,15 +78,15 @@ pub record Closes (system mode : ℕ) (d : Desk) : Type 0 where
   pub held : Held d.now.settings
   pub holds : GapHolds (system_of system) (packed d.now.packets)
   pub sound : AllSound d.now.packets
-  pub last_is : d.writer.last ≡ Number d.now.number
+  pub last_is : d.writer.last ≡ Some d.now.number
   pub settings_are : d.writer.settings ≡ d.now.settings
   pub state_last : (closing d.writer d.now.words).state.last ≡ d.writer.last
   pub state_settings : (closing d.writer d.now.words).state.settings ≡ d.writer.settings
-  pub state_place : (closing d.writer d.now.words).state.place ≡ Shut
+  pub state_place : (closing d.writer d.now.words).state.place ≡ None
   pub state_rest : (closing d.writer d.now.words).state.rest ≡ d.writer.rest
   -- an unfinished block fills the area
   pub full : is_part d.writer.rest ≡ true → length (joined d.now.pieces) ≡ area_length (system_of system).payload d.now.settings.flag
   -- in a fixed line there are at most as many blocks as places
   pub within : is_variable d.now.settings.block ≡ false → length d.now.pieces ≤ places_of (system_of system).payload d.now.settings.block
   -- the place is not the line's start where a block is unfinished
-  pub begun : is_part d.writer.rest ≡ true → (p : ℕ) → d.writer.place ≡ At p → 1 ≤ p
+  pub begun : is_part d.writer.rest ≡ true → (p : ℕ) → d.writer.place ≡ Some p → 1 ≤ p

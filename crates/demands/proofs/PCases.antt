@@ -1,5 +1,6 @@
 -- The P cases of document 01, as one checked list: what the definitions compute, beside what 01 prints, with one claim over all of it.
 -- Assumes nothing.
+use Rattle.std.specs.Prelude.{Some}
 use Prim.Native.Nat.{ℕ}
 use mathlib.Core.Bool.{true, false, xor}
 use mathlib.Core.List.{List, [], ◌∷◌, map}
@@ -14,7 +15,6 @@ use Rattle.line.specs.declared.settings.Settings.{Settings}
 use Rattle.line.specs.Systems.{system_of}
 use Rattle.line.specs.Timing.{timing_word, timing_words}
 use Rattle.line.specs.Header.{id_words, number_words, settings_bytes, settings_words, summed_words, header_words}
-use Rattle.course.specs.declared.Last.TheVariants.{Number}
 use Rattle.course.specs.Course.{next_number}
 use Rattle.writer.specs.Block.{block_words}
 use Rattle.reader.specs.Jump.{folded, jump_from, jump_numbers}
@@ -30,7 +30,7 @@ words c p = record { computed = map pos c; printed = map pos p }
 
 -- the jump of line n after line x, at 525 lines
 jump : ℕ → ℕ → ℤ → Case
-jump n x p = record { computed = jump_numbers (jump_from (system_of 0).lines (Number x) n); printed = p ∷ [] }
+jump n x p = record { computed = jump_numbers (jump_from (system_of 0).lines (Some x) n); printed = p ∷ [] }
 
 -- settings of that AAI and code
 with_code : ℕ → ℕ → Settings

@@ -1,6 +1,7 @@
 -- Item 5 of 02: the five reserved bytes are handed through. 14 is given by no entry; any five bytes are taken, laid and read back in byte form;
 -- and a change of any one of them ends a block: the reader drops it, the writer answers 20.
 -- Assumes nothing.
+use Rattle.std.specs.Prelude.{Option, Some, None}
 use Prim.Native.Nat.{ℕ, zero, suc, ◌≤◌, ◌<◌}
 use mathlib.Core.Bool.{Bool, true, false, ◌&&◌, ◌||◌, not}
 use mathlib.Core.Logic.{⊎_elim}
@@ -22,10 +23,6 @@ use Rattle.line.specs.Settings.{small, Held, settings_faults, settings_fault, sa
 use Rattle.line.specs.Check.{low, number_of, settings_of, fits_length, line_fault, checked_from, checked_of}
 use Rattle.line.proofs.SettingsLaws.{same_five, with_five, any_five}
 use Rattle.line.proofs.Lines.{five_stand, five_framed}
-use Rattle.course.specs.declared.Last.{Last}
-use Rattle.course.specs.declared.Last.TheVariants.{Unknown, Number}
-use Rattle.course.specs.declared.Place.{Place}
-use Rattle.course.specs.declared.Place.TheVariants.{Shut, At}
 use Rattle.course.specs.Course.{is_at, impossible_after}
 use Rattle.writer.specs.declared.state.Writer.{Writer}
 use Rattle.writer.specs.State.{is_part, impossible}
@@ -81,13 +78,13 @@ pub close_never_14 : (w : Writer) (line : List ℕ) → answer_numbers (closing 
 close_never_14 w line e = never 14 _ _ _ _ (demand_1.close_line w line) refl e
 
 -- of a reading call: no event is a refusal with 14, whether it says dropped or not
-not_served : (p : Place) → ServedWith p (pos 0) → ⊥
-not_served Shut e = omega (arith, ap nat_abs e)
-not_served (At q) e = ⊎_elim (λ x. omega (arith, ap nat_abs x)) (λ y. ⊎_elim (λ x. omega (arith, ap nat_abs x)) (λ x. omega (arith, ap nat_abs x)) y) e
+not_served : (p : Option ℕ) → ServedWith p (pos 0) → ⊥
+not_served None e = omega (arith, ap nat_abs e)
+not_served (Some q) e = ⊎_elim (λ x. omega (arith, ap nat_abs x)) (λ y. ⊎_elim (λ x. omega (arith, ap nat_abs x)) (λ x. omega (arith, ap nat_abs x)) y) e
 
-none_14 : (p : Place) → none_of 14 (read_answers p) ≡ true
-none_14 Shut = refl
-none_14 (At q) = refl
+none_14 : (p : Option ℕ) → none_of 14 (read_answers p) ≡ true
+none_14 None = refl
+none_14 (Some q) = refl
 
 pub read_never_14 : (st : Reader) (line room : List ℕ) (dropped : ℤ) → event_numbers (reading st line room).told.event ≡ pos 0 ∷ pos 14 ∷ dropped ∷ [] → ⊥
 read_never_14 st line room dropped e = go (lowest_of (read_refusals st line room)) refl
@@ -108,11 +105,11 @@ read_never_14 st line room dropped e = go (lowest_of (read_refusals st line room
 
 -- ---- any five bytes
 -- 10 to 13 do not ask for them (`any_five`), and so the impossible rule does not
-pub any_five_possible : (system : ℕ) (last : Last) (t : Settings) (five : List ℕ) (place : Place) (busy : Bool)
+pub any_five_possible : (system : ℕ) (last : Option ℕ) (t : Settings) (five : List ℕ) (place : Option ℕ) (busy : Bool)
     → impossible_after system last (with_five t five) place busy ≡ impossible_after system last t place busy
 unfolding settings_fault settings_faults
-any_five_possible system Unknown t five place busy = refl
-any_five_possible system (Number x) t five place busy = refl
+any_five_possible system None t five place busy = refl
+any_five_possible system (Some x) t five place busy = refl
 
 -- the line check returns those that stand in an accepted line, which has them in byte form
 pub five_read : (system mode : ℕ) (line : List ℕ) → line_fault system mode line ≡ 0
@@ -192,10 +189,10 @@ if_open : (b : Bool) → (b && true) ≡ b
 if_open true = refl
 if_open false = refl
 
-pub five_dropped : (st : Reader) (line room : List ℕ) → read_fault st (length line) (length room) ≡ 0 → st.place ≡ Shut → line_fault st.system st.mode line ≡ 0
+pub five_dropped : (st : Reader) (line room : List ℕ) → read_fault st (length line) (length room) ≡ 0 → st.place ≡ None → line_fault st.system st.mode line ≡ 0
     → same (settings_of line).reserved st.settings.reserved ≡ false
     → ((reading st line room).told.event ≡ Begun (number_of line) (jump_from (system_of st.system).lines st.last (number_of line)) (is_busy st.phase))
-    × ((reading st line room).told.state ≡ becomes st (Number (number_of line)) (settings_of line) (At 0) Idle)
+    × ((reading st line room).told.state ≡ becomes st (Some (number_of line)) (settings_of line) (Some 0) Idle)
 unfolding begun
 five_dropped st line room fit shut clean other =
     let e = (demand_2.told st line room fit shut clean).0 in
@@ -204,5 +201,5 @@ five_dropped st line room fit shut clean other =
     let ends = five_ends st n t other in (
       ap (λ (x : Reply). x.told.event) e
           ∙ ap (Begun n (jump_from (system_of st.system).lines st.last n)) (ap (λ (b : Bool). is_busy st.phase && not b) ends ∙ if_open (is_busy st.phase)),
-      ap (λ (x : Reply). x.told.state) e ∙ ap (becomes st (Number n) t (At 0)) (pick_false st.phase Idle ends),
+      ap (λ (x : Reply). x.told.state) e ∙ ap (becomes st (Some n) t (Some 0)) (pick_false st.phase Idle ends),
     )

@@ -1,5 +1,6 @@
 -- The running CRC, proved: the statement is specs/Running.antt.
 -- Assumes nothing.
+use Rattle.std.specs.Prelude.{Option, Some, None}
 use Prim.Native.Nat.{ℕ}
 use mathlib.Core.Bool.{Bool, true, false}
 use mathlib.Core.List.{List, [], ◌∷◌}
@@ -9,8 +10,6 @@ use lib.ListN.{length}
 use Rattle.lists.proofs.Tests.{true_false}
 use Rattle.words.specs.Crc.{crc_start, crc_of}
 use Rattle.words.proofs.CrcLaws.{crc_none}
-use Rattle.course.specs.declared.Place.{Place}
-use Rattle.course.specs.declared.Place.TheVariants.{Shut, At}
 use Rattle.course.specs.Course.{is_at}
 use Rattle.writer.specs.declared.state.Writer.{Writer}
 use Rattle.writer.specs.Answers.{Left, Added}
@@ -52,10 +51,10 @@ both_after system mode (c ∷ cs) d ok none =
 nothing_there : (system : ℕ) (w : Writer) (line : List ℕ) → is_at w.place ≡ false → crc_of crc_start (laid_in system w line) ≡ crc_start
 nothing_there system w line shut = go w.place refl
   where
-    go : (p : Place) → w.place ≡ p → crc_of crc_start (laid_in system w line) ≡ crc_start
-    go Shut e = ap (λ (p : Place). crc_of crc_start (laid_in system (record { system = w.system; mode = w.mode; last = w.last; settings = w.settings; place = p; rest = w.rest; crc = w.crc; used = w.used }) line)) e
+    go : (p : Option ℕ) → w.place ≡ p → crc_of crc_start (laid_in system w line) ≡ crc_start
+    go None e = ap (λ (p : Option ℕ). crc_of crc_start (laid_in system (record { system = w.system; mode = w.mode; last = w.last; settings = w.settings; place = p; rest = w.rest; crc = w.crc; used = w.used }) line)) e
         ∙ crc_none crc_start (lit< tt)
-    go (At k) e = absurd (true_false (sym (ap is_at e) ∙ shut))
+    go (Some k) e = absurd (true_false (sym (ap is_at e) ∙ shut))
 
 kept_by : (system mode : ℕ) (d : Desk) → DeskOk system mode d → NoneLaid d → d.writer.crc ≡ crc_of crc_start (laid_in system d.writer d.now.words)
 kept_by system mode d ok none = go (is_at d.writer.place) refl

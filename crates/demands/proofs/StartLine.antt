@@ -1,5 +1,6 @@
 -- A line opened: the ear would start on it behind what was laid of an unfinished block, if all of that was kept, and idle if not.
 -- Assumes nothing.
+use Rattle.std.specs.Prelude.{Option, Some, None}
 use Prim.Native.Nat.{ℕ, ◌≤◌}
 use mathlib.Core.Bool.{Bool, true, false, ◌&&◌, not}
 use mathlib.Core.List.{List, []}
@@ -12,9 +13,6 @@ use Rattle.line.specs.declared.settings.Settings.{Settings}
 use Rattle.line.specs.Systems.{system_of}
 use Rattle.line.specs.Settings.{same_settings}
 use Rattle.line.specs.Fixed.{is_variable}
-use Rattle.course.specs.declared.Last.{Last}
-use Rattle.course.specs.declared.Last.TheVariants.{Unknown, Number}
-use Rattle.course.specs.declared.Place.TheVariants.{At}
 use Rattle.course.specs.Course.{place_of}
 use Rattle.writer.specs.declared.state.Answer.TheVariants.{Done}
 use Rattle.writer.specs.State.{is_part}
@@ -35,10 +33,10 @@ use Rattle.demands.proofs.DeskCalls.{shut_at, none_left, fixed_none}
 use Rattle.demands.proofs.Ahead.{Matches, Between, Numbered, Noted, Ahead}
 
 -- ---- the jump is 0 exactly where the number is next
-zero_next : (system : ℕ) (l : Last) (n : ℕ) → Numbered (system_of system).lines l → 1 ≤ n → n ≤ (system_of system).lines
+zero_next : (system : ℕ) (l : Option ℕ) (n : ℕ) → Numbered (system_of system).lines l → 1 ≤ n → n ≤ (system_of system).lines
     → is_zero (jump_from (system_of system).lines l n) ≡ is_next (system_of system).lines l n
-zero_next system Unknown n r one most = refl
-zero_next system (Number x) n r one most = system_jump_zero system n x one most r.0 r.1
+zero_next system None n r one most = refl
+zero_next system (Some x) n r one most = system_jump_zero system n x one most r.0 r.1
 
 goes_by : (system mode : ℕ) (e : Ear) (n : ℕ) (t : Settings) → Numbered (system_of system).lines e.last → 1 ≤ n → n ≤ (system_of system).lines
     → goes_on_in system mode e n t ≡ (is_next (system_of system).lines e.last n && same_settings t e.settings)
@@ -94,7 +92,7 @@ module _ (system mode cap : ℕ) (keeps : ℕ → Bool) (told gone : Bool) (d : 
     where
       by : (b : Bool) → told ≡ b → is_next (system_of system).lines ear.last n ≡ true
       by true z = h.1 z g (here.same g e w).known
-      by false z = ap (λ (l : Last). is_next (system_of system).lines l n) ((here.same g e w).last z) ∙ (o.goes_on e).1
+      by false z = ap (λ (l : Option ℕ). is_next (system_of system).lines l n) ((here.same g e w).last z) ∙ (o.goes_on e).1
 
   start_here : Noted (system_of system).lines told ear.last gone n → gone ≡ false → Matches mode cap keeps d.pieces (start_now system mode ear n t)
   start_here h g = by (is_part d.writer.rest) refl
@@ -143,5 +141,5 @@ module _ (system mode cap : ℕ) (keeps : ℕ → Bool) (told gone : Bool) (d : 
     missing = λ h p e least part. absurd (at_zero p (sym o.place ∙ e) least);
   }
     where
-      at_zero : (p : ℕ) → At 0 ≡ At p → 1 ≤ p → ⊥
+      at_zero : (p : ℕ) → Some 0 ≡ Some p → 1 ≤ p → ⊥
       at_zero p e h = let z : 0 ≡ p = ap place_of e in omega arith

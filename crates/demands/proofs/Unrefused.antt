@@ -1,5 +1,6 @@
 -- A call that no condition refuses is accepted: from the conditions, one by one, to the fault number 0 and the answer.
 -- Assumes nothing.
+use Rattle.std.specs.Prelude.{Option, Some}
 use Prim.Native.Nat.{ℕ, ◌+◌, ◌-◌, ◌^◌, ◌≤◌, ◌<◌}
 use mathlib.Core.Bool.{Bool, true, false, ◌&&◌, ◌||◌, not}
 use mathlib.Core.List.{List, [], ◌∷◌, ◌++◌}
@@ -21,8 +22,6 @@ use Rattle.line.specs.Check.{fits_length}
 use Rattle.line.proofs.SystemLaws.{sound}
 use Rattle.line.proofs.AreaLaws.{area_most}
 use Rattle.line.proofs.SettingsLaws.{block_passes}
-use Rattle.course.specs.declared.Place.{Place}
-use Rattle.course.specs.declared.Place.TheVariants.{At}
 use Rattle.course.specs.Course.{is_at, blocks_end}
 use Rattle.course.proofs.CourseLaws.{start_placed, grid_some, whole_small}
 use Rattle.writer.specs.declared.state.Writer.{Writer}
@@ -104,7 +103,7 @@ shape_by true false long none h = refl
 shape_by false false long none h = refl
 shape_by false true long none h = false_or (ap not (h refl).0) (h refl).1
 
-pub passes_shape : (mode : ℕ) (t : Settings) (b : Block) (place : Place) → Passes mode t b → ill_shaped place t.block b.kind (length b.values) ≡ false
+pub passes_shape : (mode : ℕ) (t : Settings) (b : Block) (place : Option ℕ) → Passes mode t b → ill_shaped place t.block b.kind (length b.values) ≡ false
 unfolding ill_shaped
 passes_shape mode t b place p =
     let n = length b.values in
@@ -123,7 +122,7 @@ end_some system t known clean = by (is_variable t.block) refl
         let p = (system_of system).payload in
         omega (arith, (grid_some p t.block t.flag 0 v (start_placed system t clean)).0, whole_small p t.block t.flag v (block_passes system t clean))
 
-pub not_full : (end p : ℕ) → p < end → is_full end (At p) ≡ false
+pub not_full : (end p : ℕ) → p < end → is_full end (Some p) ≡ false
 not_full end p h = lt-leb end p h
 
 -- ---- 20

@@ -1,5 +1,6 @@
 -- A call under an allowance, by what it reports; and how much is left to consume behind it.
 -- Assumes nothing.
+use Rattle.std.specs.Prelude.{Option, Some, None}
 use Prim.Native.Nat.{ℕ, zero, suc, ◌+◌, ◌-◌, ◌*◌, ◌/◌, ◌≤◌, ◌<◌}
 use mathlib.Core.Bool.{Bool, true, false}
 use mathlib.Core.List.{List}
@@ -17,8 +18,6 @@ use Rattle.line.specs.Settings.{settings_fault}
 use Rattle.line.specs.Fixed.{is_variable, places_of, size_of}
 use Rattle.line.specs.Layout.{area_length}
 use Rattle.line.specs.Check.{settings_of, fits, line_fault}
-use Rattle.course.specs.declared.Place.{Place}
-use Rattle.course.specs.declared.Place.TheVariants.{Shut, At}
 use Rattle.course.specs.Course.{place_of, blocks_end}
 use Rattle.course.proofs.CourseLaws.{at_place, start_placed, grid_count}
 use Rattle.reader.specs.declared.state.Reader.{Reader}
@@ -69,12 +68,12 @@ module _ (a : ℕ) (st : Reader) (line room : List ℕ) where
   pausing = paused_by (within a st line room) (outcome a st line room)
 
   -- ---- the places moved on
-  moved_by : (s : Sliced) → Outcome capacity a st line room s → (q next : ℕ) → st.place ≡ At q → s.answer.state.place ≡ At next
+  moved_by : (s : Sliced) → Outcome capacity a st line room s → (q next : ℕ) → st.place ≡ Some q → s.answer.state.place ≡ Some next
       → next ≡ q + s.answer.consumed * unit_of st.settings.block
   moved_by _ (is_paused st' room' k) q next e f = ap place_of (sym f ∙ (k.moved q e).0)
   moved_by _ (is_told_lem n t room' k) q next e f = k.moved q next e f
 
-  pub moves : (q next : ℕ) → st.place ≡ At q → (within a st line room).answer.state.place ≡ At next
+  pub moves : (q next : ℕ) → st.place ≡ Some q → (within a st line room).answer.state.place ≡ Some next
       → next ≡ q + (within a st line room).answer.consumed * unit_of st.settings.block
   moves = moved_by (within a st line room) (outcome a st line room)
 
@@ -90,7 +89,7 @@ module _ (a : ℕ) (st : Reader) (line room : List ℕ) where
   pub refused_first : (n : ℕ) → read_fault st (length line) (length room) ≡ n → 1 ≤ n → within a st line room ≡ sliced (tells 0 (record { event = Refused n false; state = st })) room
   refused_first n is h = sym (within_refused capacity a st line room n (sym is) (λ z. omega arith))
 
-  pub opens : 1 ≤ a → st.place ≡ Shut → within a st line room ≡ sliced (tells 0 (reading st line room).told) (reading st line room).room
+  pub opens : 1 ≤ a → st.place ≡ None → within a st line room ≡ sliced (tells 0 (reading st line room).told) (reading st line room).room
   opens some at = go (read_fault st (length line) (length room)) refl
     where
       go : (n : ℕ) → read_fault st (length line) (length room) ≡ n → within a st line room ≡ sliced (tells 0 (reading st line room).told) (reading st line room).room
@@ -98,8 +97,8 @@ module _ (a : ℕ) (st : Reader) (line room : List ℕ) where
           refused_first (suc n) is (omega arith)
           ∙ ap (λ (x : Reply). sliced (tells 0 x.told) x.room) (read_refused capacity st line room (suc n) (sym is) (λ z. omega arith))
       go zero is =
-          sym (within_goes capacity a st line room 0 (sym is) Shut refl (λ z. omega arith) at)
-          ∙ ap (λ (x : Reply). sliced (tells 0 x.told) x.room) (sym (by_place st line room Shut is at))
+          sym (within_goes capacity a st line room 0 (sym is) None refl (λ z. omega arith) at)
+          ∙ ap (λ (x : Reply). sliced (tells 0 x.told) x.room) (sym (by_place st line room None is at))
 
 pub pauses_at_once : (st : Reader) (line room : List ℕ) → read_fault st (length line) (length room) ≡ 0 → within 0 st line room ≡ sliced (paused_at 0 st) room
 pauses_at_once st line room is = sym (within_none capacity 0 st line room 0 (sym is) refl refl)
@@ -116,24 +115,24 @@ above_area a st line room h e =
     omega (arith, (k.moved q at).1, in_area capacity st q line room k.fit at, long)
 
 -- ---- what is left to consume
-left_by : Place → Reader → List ℕ → ℕ
-left_by Shut st line = count_in (system_of st.system).payload (settings_of line)
-left_by (At q) st line = (end_of st - q) / unit_of st.settings.block
+left_by : Option ℕ → Reader → List ℕ → ℕ
+left_by None st line = count_in (system_of st.system).payload (settings_of line)
+left_by (Some q) st line = (end_of st - q) / unit_of st.settings.block
 
 pub left : Reader → List ℕ → ℕ
 unfolding left_by
 left st line = left_by st.place st line
 
-pub left_shut : (st : Reader) (line : List ℕ) → st.place ≡ Shut → left st line ≡ count_in (system_of st.system).payload (settings_of line)
+pub left_shut : (st : Reader) (line : List ℕ) → st.place ≡ None → left st line ≡ count_in (system_of st.system).payload (settings_of line)
 unfolding left left_by
-left_shut st line at = ap (λ (p : Place). left_by p st line) at
+left_shut st line at = ap (λ (p : Option ℕ). left_by p st line) at
 
-left_at : (st : Reader) (line : List ℕ) (q : ℕ) → st.place ≡ At q → left st line ≡ (end_of st - q) / unit_of st.settings.block
+left_at : (st : Reader) (line : List ℕ) (q : ℕ) → st.place ≡ Some q → left st line ≡ (end_of st - q) / unit_of st.settings.block
 unfolding left left_by
-left_at st line q at = ap (λ (p : Place). left_by p st line) at
+left_at st line q at = ap (λ (p : Option ℕ). left_by p st line) at
 
 -- of another state of the same line
-left_then : (st s : Reader) (line : List ℕ) (q : ℕ) → s.place ≡ At q → s.system ≡ st.system → s.settings ≡ st.settings → left s line ≡ (end_of st - q) / unit_of st.settings.block
+left_then : (st s : Reader) (line : List ℕ) (q : ℕ) → s.place ≡ Some q → s.system ≡ st.system → s.settings ≡ st.settings → left s line ≡ (end_of st - q) / unit_of st.settings.block
 left_then st s line q at sys set =
     left_at s line q at
     ∙ ap₂ (λ (k : ℕ) (t : Settings). (blocks_end (system_of k).payload t.block t.flag - q) / unit_of t.block) sys set
@@ -194,7 +193,7 @@ module _ (st : Reader) (line room : List ℕ) (t : Tale) (room' : List ℕ) (sam
       go (suc n) is =
           absurd (true_false (ap (λ (x : Reply). is_last x.told.event) (read_refused capacity st line room (suc n) (sym is) (λ z. omega arith) ∙ same) ∙ on))
 
-  begun_on : st.place ≡ Shut → (n : ℕ) → line_fault st.system st.mode line ≡ n → left t.state line ≡ count_in (system_of st.system).payload (settings_of line)
+  begun_on : st.place ≡ None → (n : ℕ) → line_fault st.system st.mode line ≡ n → left t.state line ≡ count_in (system_of st.system).payload (settings_of line)
   begun_on at (suc n) is =
       absurd (true_false (ap (λ (x : Reply). is_last x.told.event) (sym (refuses st line room fits_on at (suc n) is (λ z. omega arith)) ∙ same) ∙ on))
   begun_on at zero is =
@@ -210,7 +209,7 @@ module _ (st : Reader) (line room : List ℕ) (t : Tale) (room' : List ℕ) (sam
       ∙ start_count t.state.system t.state.settings clean
       ∙ ap₂ (λ (k : ℕ) (u : Settings). count_in (system_of k).payload u) s.same.system s.settings
 
-  further_on : (q : ℕ) → st.place ≡ At q → left t.state line ≤ left st line
+  further_on : (q : ℕ) → st.place ≡ Some q → left t.state line ≤ left st line
   further_on q at =
       let m = subst (Moves capacity st q line room) same (call_moves st q line room fits_on at) in
       ⊎_elim (λ (e : Ended (reply t room')). absurd (true_false (sym (ap is_last e.event) ∙ on)))
@@ -222,6 +221,6 @@ module _ (st : Reader) (line room : List ℕ) (t : Tale) (room' : List ℕ) (sam
   pub told_less : left t.state line ≤ left st line
   told_less = go st.place refl
     where
-      go : (p : Place) → st.place ≡ p → left t.state line ≤ left st line
-      go Shut at = omega (arith, begun_on at _ refl, left_shut st line at)
-      go (At q) at = further_on q at
+      go : (p : Option ℕ) → st.place ≡ p → left t.state line ≤ left st line
+      go None at = omega (arith, begun_on at _ refl, left_shut st line at)
+      go (Some q) at = further_on q at

@@ -1,6 +1,7 @@
 -- Blocks that 17 and 18 let pass can be sent: a block is laid on the open line as far as it fits, and the rest of it on the next line. Each
 -- accepted addition lays a word at least, so the words left fall; a new line has room for one.
 -- Assumes nothing.
+use Rattle.std.specs.Prelude.{Option, Some, None}
 use Prim.Native.Nat.{ℕ, zero, suc, ◌+◌, ◌-◌, ◌≤◌, ◌<◌, min}
 use mathlib.Core.Bool.{Bool, true, false, ◌&&◌, ◌||◌, not}
 use mathlib.Core.List.{List, [], ◌∷◌, ◌++◌, map, append-nil, append_assoc, map-append}
@@ -15,13 +16,8 @@ use Rattle.line.specs.declared.settings.Settings.{Settings}
 use Rattle.line.specs.Systems.{system_of, is_system}
 use Rattle.line.specs.Settings.{Held, settings_fault, same_settings}
 use Rattle.line.specs.Check.{fits_length}
-use Rattle.course.specs.declared.Last.{Last}
-use Rattle.course.specs.declared.Last.TheVariants.{Number}
-use Rattle.course.specs.declared.Place.TheVariants.{At}
 use Rattle.course.specs.Course.{is_at, place_of, next_number, blocks_end, misplaced}
 use Rattle.course.proofs.CourseLaws.{placed_end}
-use Rattle.writer.specs.declared.state.Rest.{Rest}
-use Rattle.writer.specs.declared.state.Rest.TheVariants.{NoBlock}
 use Rattle.writer.specs.declared.state.Answer.{Answer}
 use Rattle.writer.specs.declared.state.Answer.TheVariants.{Done}
 use Rattle.writer.specs.declared.state.Laid.{Laid}
@@ -51,6 +47,7 @@ use Rattle.demands.proofs.DeskStart.{start_ok}
 use Rattle.demands.proofs.Notices.{next_in}
 use Rattle.demands.proofs.AsLent.{as_lent}
 use Rattle.demands.proofs.Unrefused.{opens_clear, adds_clear, closes_clear, fits_by, open_long, passes_values, passes_shape, end_some, not_full, same_again}
+use Rattle.writer.specs.declared.state.Part.{Part}
 
 -- ---- tests and numbers
 and_none : (a b : Bool) → b ≡ false → (a && b) ≡ false
@@ -210,7 +207,7 @@ module _ (system mode : ℕ) (f v : Bool) (t : Settings) (held : Held t) (known 
           let ok' = closed_ok system mode d w.ok close_done in
           let same : same_settings t closed.writer.settings ≡ true = ap (same_settings t) (c.state_settings ∙ state_settings) ∙ same_again t in
           let next : is_next (system_of closed.writer.system).lines closed.writer.last (next_number N x) ≡ true =
-          ap₂ (λ (s : ℕ) (l : Last). is_next (system_of s).lines l (next_number N x)) ok'.of_system (c.state_last ∙ c.last_is ∙ ap Number w.number)
+          ap₂ (λ (s : ℕ) (l : Option ℕ). is_next (system_of s).lines l (next_number N x)) ok'.of_system (c.state_last ∙ c.last_is ∙ ap Some w.number)
           ∙ eq-eqb (next_number N x) (next_number N x) refl in
           ap₂ (λ (a b : Bool). a || b) (ap is_at c.state_place) (and_none (is_part closed.writer.rest) _ (ap₂ (λ (a b : Bool). not a || not b) same next))
 
@@ -252,7 +249,7 @@ module _ (system mode : ℕ) (f v : Bool) (t : Settings) (held : Held t) (known 
   record Next (x : ℕ) (d : Desk) : Type 0 where
     desk : Desk
     works : Working (next_number N x) desk
-    place : desk.writer.place ≡ At 0
+    place : desk.writer.place ≡ Some 0
     rest : desk.writer.rest ≡ d.writer.rest
     values : desk.values ≡ d.values
     none : desk.now.blocks ≡ []
@@ -285,18 +282,18 @@ module _ (system mode : ℕ) (f v : Bool) (t : Settings) (held : Held t) (known 
 
   -- ---- adding
   -- the words of the block that are left
-  abbrev left : Rest → Block → ℕ
+  abbrev left : Option Part → Block → ℕ
   left r b = length (drop (laid_of r) (words_in t.block mode b.kind b.values))
 
   -- the block is new, or the unfinished one
   record Fitting (d : Desk) (b : Block) : Type 0 where
     same : is_other d.writer.rest b.kind (length b.values) ≡ false
-    kept : (d.writer.rest ≡ NoBlock) ⊎ (d.values ≡ b.values)
+    kept : (d.writer.rest ≡ None) ⊎ (d.values ≡ b.values)
 
   module _ (b : Block) (us : List Block) (passes : Passes mode t b) where
     -- what goes on behind the block
     After : Type 0
-    After = (x : ℕ) (d : Desk) → Working x d → d.writer.rest ≡ NoBlock → Ways (length d.now.pieces) x d (map block_of d.now.blocks ++ us)
+    After = (x : ℕ) (d : Desk) → Working x d → d.writer.rest ≡ None → Ways (length d.now.pieces) x d (map block_of d.now.blocks ++ us)
 
     Again : ℕ → Type 0
     Again fuel =
@@ -366,11 +363,11 @@ module _ (system mode : ℕ) (f v : Bool) (t : Settings) (held : Held t) (known 
           let words = words_in t.block mode kind vs in
           let less = fewer (length words) (laid_of d.writer.rest) k (end_in d.writer) (place_of d.writer.place) (length (todo d.writer kind vs)) (left d'.writer.rest b)
           (ap length todo_is ∙ length-drop (laid_of d.writer.rest) words)
-          (ap (λ (r : Rest). left r b) rest ∙ length-drop (laid_of d.writer.rest + k) words)
+          (ap (λ (r : Option Part). left r b) rest ∙ length-drop (laid_of d.writer.rest + k) words)
           (can_add d.writer d.now.words kind vs clear).room refl
           (eqb-false k (length (todo d.writer kind vs)) (some_left d.writer d.now.words kind vs clear e)) in
           let fitting : Fitting d' b = record {
-            same = ap (λ (r : Rest). is_other r kind (length vs)) rest ∙ ap not (and_true (eq-eqb kind kind refl) (eq-eqb (length vs) (length vs) refl));
+            same = ap (λ (r : Option Part). is_other r kind (length vs)) rest ∙ ap not (and_true (eq-eqb kind kind refl) (eq-eqb (length vs) (length vs) refl));
             kept = inr as_laid_lem;
           } in
           let y = again x d' works fitting (omega (arith, less, few, ap length todo_is)) in
@@ -395,10 +392,10 @@ module _ (system mode : ℕ) (f v : Bool) (t : Settings) (held : Held t) (known 
         by true e =
             let n = next_line x d w e in
             let fit' : Fitting n.desk b = record {
-              same = ap (λ (r : Rest). is_other r b.kind (length b.values)) n.rest ∙ fit.same;
+              same = ap (λ (r : Option Part). is_other r b.kind (length b.values)) n.rest ∙ fit.same;
               kept = ⊎_elim (λ z. inl (n.rest ∙ z)) (λ z. inr (n.values ∙ z)) fit.kept;
             } in
-            let few' = subst (λ (r : Rest). left r b < suc fuel) (sym n.rest) few in
+            let few' = subst (λ (r : Option Part). left r b < suc fuel) (sym n.rest) few in
             let some = end_some system t known clean in
             let space : is_full (end_in n.desk.writer) n.desk.writer.place ≡ false =
             ap₂ is_full
@@ -415,15 +412,15 @@ module _ (system mode : ℕ) (f v : Bool) (t : Settings) (held : Held t) (known 
     lay_block (suc fuel) behind x d w fit few = lay_or_next fuel x d w fit few behind (lay_block fuel behind)
 
   -- ---- any blocks
-  lay_all_lem : (bs : List Block) → All (Passes mode t) bs → (x : ℕ) (d : Desk) → Working x d → d.writer.rest ≡ NoBlock
+  lay_all_lem : (bs : List Block) → All (Passes mode t) bs → (x : ℕ) (d : Desk) → Working x d → d.writer.rest ≡ None
       → Ways (length d.now.pieces) x d (map block_of d.now.blocks ++ bs)
   unfolding Again After
   lay_all_lem [] h x d w whole =
       subst (Ways (length d.now.pieces) x d) (sym (append-nil (map block_of d.now.blocks)))
-      (closes_last x d w (ap (λ (r : Rest). is_part r && not (is_full (end_in d.writer) d.writer.place)) whole))
+      (closes_last x d w (ap (λ (r : Option Part). is_part r && not (is_full (end_in d.writer) d.writer.place)) whole))
   lay_all_lem (b ∷ bs) h x d w whole =
       lay_block b bs h.0 (suc (left d.writer.rest b)) (λ x' d' w' whole'. lay_all_lem bs h.1 x' d' w' whole') x d w
-      (record { same = ap (λ (r : Rest). is_other r b.kind (length b.values)) whole; kept = inl whole }) (omega arith)
+      (record { same = ap (λ (r : Option Part). is_other r b.kind (length b.values)) whole; kept = inl whole }) (omega arith)
 
   pub all_written : (n : ℕ) (bs : List Block) → 1 ≤ n → n ≤ (system_of system).lines → All (Passes mode t) bs → Writes system mode f v n t bs
   unfolding open_blocked

@@ -1,7 +1,7 @@
 -- READING UNDER AN ALLOWANCE (02, Item 10). A reading call takes an allowance of area words and reports paused when it has consumed that many without an
 -- event. The contract of `read_within` is an equality with `within` (reader/specs/Within.antt); this page says what 02 asks of it.
 -- Assumes nothing.
-use Rattle.std.specs.Prelude.{ℕ, ◌+◌, ◌*◌, ◌≤◌, ◌<◌, Bool, true, false, List, [], ◌∷◌, ◌++◌, map, ◌≡◌, length}
+use Rattle.std.specs.Prelude.{ℕ, ◌+◌, ◌*◌, ◌≤◌, ◌<◌, Bool, true, false, List, [], ◌∷◌, ◌++◌, map, ◌≡◌, length, Some, None}
 use Rattle.lists.specs.Tests.{pick}
 use Rattle.words.specs.Modes.{is_mode}
 use Rattle.line.specs.declared.settings.Settings.{Settings}
@@ -9,8 +9,6 @@ use Rattle.line.specs.Systems.{system_of, is_system}
 use Rattle.line.specs.Fixed.{is_variable, places_of}
 use Rattle.line.specs.Layout.{area_length}
 use Rattle.line.specs.Check.{settings_of, line_fault}
-use Rattle.course.specs.declared.Last.TheVariants.{Unknown}
-use Rattle.course.specs.declared.Place.TheVariants.{Shut, At}
 use Rattle.course.specs.Course.{is_at, blocks_end}
 use Rattle.reader.specs.declared.state.Reader.{Reader}
 use Rattle.reader.specs.declared.state.Event.{Event}
@@ -74,7 +72,7 @@ pub record Longest (system mode : ℕ) : Type 0 where
   pub of_system : st.system ≡ system
   pub of_mode : st.mode ≡ mode
   pub possible : impossible st ≡ false
-  pub shut : st.place ≡ Shut
+  pub shut : st.place ≡ None
   pub accepted : line_fault system mode line ≡ 0
   pub long : length room ≡ capacity
   pub then : ends_within ((system_of system).payload + 2) st line room ≡ true
@@ -87,17 +85,17 @@ pub record Allowed : Type 0 where
   -- after them, allowance 0 pauses at once and changes nothing, also at a line's start
   pub none : (st : Reader) (line room : List ℕ) → read_fault st (length line) (length room) ≡ 0 → within 0 st line room ≡ sliced (paused_at 0 st) room
   -- with any other, opening costs nothing: no line begun
-  pub opening : (a : ℕ) (st : Reader) (line room : List ℕ) → 1 ≤ a → st.place ≡ Shut
+  pub opening : (a : ℕ) (st : Reader) (line room : List ℕ) → 1 ≤ a → st.place ≡ None
       → within a st line room ≡ sliced (tells 0 (reading st line room).told) (reading st line room).room
   -- paused when it has consumed that many; and of an event it consumed no more
   pub used : (a : ℕ) (st : Reader) (line room : List ℕ) → (within a st line room).answer.report ≡ Paused → (within a st line room).answer.consumed ≡ a
   pub met : (a : ℕ) (st : Reader) (line room : List ℕ) (e : Event) → (within a st line room).answer.report ≡ Told e → is_at st.place ≡ true → is_last e ≡ false
       → (1 ≤ (within a st line room).answer.consumed) × ((within a st line room).answer.consumed ≤ a)
   -- a used-up allowance pauses before the line's end is reported
-  pub ended : (a : ℕ) (st : Reader) (q : ℕ) (line room : List ℕ) → (within a st line room).answer.report ≡ Told End → st.place ≡ At q
+  pub ended : (a : ℕ) (st : Reader) (q : ℕ) (line room : List ℕ) → (within a st line room).answer.report ≡ Told End → st.place ≡ Some q
       → (q + (within a st line room).answer.consumed * unit_of st.settings.block ≡ end_of st) × ((within a st line room).answer.consumed < a)
   -- the number consumed equals the places that the reader moved on: words of a variable line, places of a fixed one, however long
-  pub moved : (a : ℕ) (st : Reader) (q next : ℕ) (line room : List ℕ) → st.place ≡ At q → (within a st line room).answer.state.place ≡ At next
+  pub moved : (a : ℕ) (st : Reader) (q next : ℕ) (line room : List ℕ) → st.place ≡ Some q → (within a st line room).answer.state.place ≡ Some next
       → next ≡ q + (within a st line room).answer.consumed * unit_of st.settings.block
   -- leaving out pauses, a call tells what the call without allowance tells, and leaves its state and room; ..
   pub told : (a : ℕ) (st : Reader) (line room : List ℕ) (e : Event) → (within a st line room).answer.report ≡ Told e
@@ -113,16 +111,16 @@ pub record Allowed : Type 0 where
   -- demand 2 and demand 3 of a reader under any allowances
   pub heard : (system mode : ℕ) (cs : List Call) (room : List ℕ) → length room ≡ capacity → (als : List (List ℕ)) (hs : List Heard) (st' : Reader) (room' : List ℕ)
       → ReadsWithin als (fresh system mode) room (map (λ (s : Sent). s.words) (sent_fresh system mode cs)) hs st' room'
-      → hs ≡ given_back (system_of system).lines Unknown (sent_fresh system mode cs)
+      → hs ≡ given_back (system_of system).lines None (sent_fresh system mode cs)
   pub handed : (system mode : ℕ) (cs : List Call) (fs : List Fate) → Transmission system mode (system_of system).lines cs fs
       → (room : List ℕ) → length room ≡ capacity → (als : List (List ℕ)) (hs : List Heard) (st' : Reader) (room' : List ℕ)
       → ReadsWithin als (fresh system mode) room (remain fs (sent_fresh system mode cs)) hs st' room'
       → handed_out hs ≡ survivors (kept_at fs) (blocks_of (sent_fresh system mode cs))
   -- with allowances of 1 or more a line has at most as many pauses as there is to consume; ..
-  pub pauses : (line al : List ℕ) (st : Reader) (room : List ℕ) (hs : List Heard) (st' : Reader) (room' : List ℕ) → st.place ≡ Shut → All (λ (a : ℕ). 1 ≤ a) al
+  pub pauses : (line al : List ℕ) (st : Reader) (room : List ℕ) (hs : List Heard) (st' : Reader) (room' : List ℕ) → st.place ≡ None → All (λ (a : ℕ). 1 ≤ a) al
       → LendsWithin line al st room hs st' room' → length al ≤ length hs + count_in (system_of st.system).payload (settings_of line)
   -- .. and with so many of them it comes to its end, and what is heard without allowances is heard
-  pub served : (line al : List ℕ) (st : Reader) (room : List ℕ) (hs : List Heard) (st' : Reader) (room' : List ℕ) → st.place ≡ Shut → All (λ (a : ℕ). 1 ≤ a) al
+  pub served : (line al : List ℕ) (st : Reader) (room : List ℕ) (hs : List Heard) (st' : Reader) (room' : List ℕ) → st.place ≡ None → All (λ (a : ℕ). 1 ≤ a) al
       → Lends line st room hs st' room' → length hs + count_in (system_of st.system).payload (settings_of line) ≤ length al → Served line al st room hs st' room'
   -- an allowance above the area never pauses
   pub enough : (a : ℕ) (st : Reader) (line room : List ℕ) → area_length (system_of st.system).payload st.settings.flag < a → (within a st line room).answer.report ≡ Paused → ⊥
@@ -130,5 +128,5 @@ pub record Allowed : Type 0 where
   pub possible : (a : ℕ) (st : Reader) (line room : List ℕ) → impossible st ≡ false → impossible (within a st line room).answer.state ≡ false
   pub never_2 : (system mode : ℕ) (st : Reader) → Reached system mode st → (a : ℕ) (line room : List ℕ) (d : Bool) → (within a st line room).answer.report ≡ Told (Refused 2 d) → ⊥
   -- without allowances no line needs more than P + 2 calls, and in every system and mode there is one that needs exactly so many
-  pub calls : (st : Reader) (line room : List ℕ) → st.place ≡ Shut → ends_within ((system_of st.system).payload + 2) st line room ≡ true
+  pub calls : (st : Reader) (line room : List ℕ) → st.place ≡ None → ends_within ((system_of st.system).payload + 2) st line room ≡ true
   pub longest : (system mode : ℕ) → is_system system ≡ true → is_mode mode ≡ true → Longest system mode

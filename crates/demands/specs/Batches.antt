@@ -1,10 +1,9 @@
 -- MANY BLOCKS IN ONE CALL (02, Item 9). A call with a list of blocks leaves the line and the state that the same blocks leave, added one by one. So a
 -- course with such calls is a course of single calls, and demands 2 and 3 hold of it unchanged.
 -- Assumes nothing.
-use Rattle.std.specs.Prelude.{ℕ, ◌+◌, ◌<◌, List, [], ◌∷◌, ◌++◌, map, ◌≡◌, eqb, length}
+use Rattle.std.specs.Prelude.{ℕ, ◌+◌, ◌<◌, List, [], ◌∷◌, ◌++◌, map, ◌≡◌, eqb, length, None}
 use Rattle.lists.specs.Tests.{pick}
 use Rattle.line.specs.Systems.{system_of}
-use Rattle.course.specs.declared.Last.TheVariants.{Unknown}
 use Rattle.writer.specs.declared.state.Writer.{Writer}
 use Rattle.writer.specs.declared.state.Answer.{Answer}
 use Rattle.writer.specs.declared.state.Answer.TheVariants.{Refused, Done}
@@ -155,7 +154,7 @@ pub record Batches : Type 0 where
   pub exact : (system mode : ℕ) (cs : List Mixed) → All (IsLine system) (sent_fresh system mode (spelled_fresh system mode cs))
   pub heard : (system mode : ℕ) (cs : List Mixed) (room : List ℕ) → length room ≡ reader.capacity → (hs : List Heard)
       → Reads (reader.fresh system mode) room (lines_fresh system mode cs) hs
-      → hs ≡ given_back (system_of system).lines Unknown (sent_fresh system mode (spelled_fresh system mode cs))
+      → hs ≡ given_back (system_of system).lines None (sent_fresh system mode (spelled_fresh system mode cs))
   -- and demand 3
   pub handed : (system mode : ℕ) (cs : List Mixed) (fs : List Fate) → Transmission system mode (system_of system).lines (spelled_fresh system mode cs) fs
       → (room : List ℕ) → length room ≡ reader.capacity → (hs : List Heard) → Reads (reader.fresh system mode) room (remaining fs (lines_fresh system mode cs)) hs

@@ -24,14 +24,11 @@
 --    28 entry broken off, by 02, Item 9: a list of blocks               `broken`, in `entries_in`
 -- and of 02, Item 3, for a packet: 17 word above 511, 18 over 255 words, 20 no line open, 24 packet and gap words used exceed the gap: `pack_faults`
 -- Assumes nothing.
-use Rattle.std.specs.Prelude.{ℕ, suc, ◌≤◌, ◌<◌, Bool, true, false, ◌&&◌, ◌⊎◌, List, [], ◌∷◌, ◌++◌, map, ◌≡◌, leb, ℤ, pos, length, get_or}
+use Rattle.std.specs.Prelude.{ℕ, suc, ◌≤◌, ◌<◌, Bool, true, false, ◌&&◌, ◌⊎◌, List, [], ◌∷◌, ◌++◌, map, ◌≡◌, leb, ℤ, pos, length, get_or, Option, Some, None}
 use Rattle.lists.specs.Tests.{Refusal, rising, holds_at}
 use Rattle.line.specs.declared.settings.Settings.{Settings}
 use Rattle.line.specs.Systems.{system_of}
 use Rattle.line.specs.Check.{faults, line_faults, faulty_with, checked_of}
-use Rattle.course.specs.declared.Last.TheVariants.{Unknown}
-use Rattle.course.specs.declared.Place.{Place}
-use Rattle.course.specs.declared.Place.TheVariants.{Shut, At}
 use Rattle.writer.specs.declared.state.Writer.{Writer}
 use Rattle.writer.specs.Answers.{answer_numbers, laid_numbers}
 use Rattle.writer.specs.Opening.{open_faults, opening}
@@ -67,16 +64,16 @@ pub record Numbered (rs : List Refusal) (ns : List ℕ) (given : ℕ → Type 0)
 
 -- ---- reading
 -- 1 and 2; with no line begun 3 to 13, 15 and 16 as well. Later calls don't check words again.
-abbrev pub where_shut : Place → List Refusal → List Refusal
-where_shut Shut rs = rs
-where_shut (At q) rs = []
+abbrev pub where_shut : Option ℕ → List Refusal → List Refusal
+where_shut None rs = rs
+where_shut (Some q) rs = []
 
 abbrev pub from3to16 : List ℕ
 from3to16 = 3 ∷ 4 ∷ 5 ∷ 6 ∷ 7 ∷ 8 ∷ 9 ∷ 10 ∷ 11 ∷ 12 ∷ 13 ∷ 15 ∷ 16 ∷ []
 
-abbrev pub read_answers : Place → List ℕ
-read_answers Shut = 1 ∷ 2 ∷ from3to16
-read_answers (At q) = 1 ∷ 2 ∷ []
+abbrev pub read_answers : Option ℕ → List ℕ
+read_answers None = 1 ∷ 2 ∷ from3to16
+read_answers (Some q) = 1 ∷ 2 ∷ []
 
 abbrev pub read_refusals : Reader → List ℕ → List ℕ → List Refusal
 read_refusals st line room = read_faults_in capacity st (length line) (length room) ++ where_shut st.place (faults (system_of st.system) st.mode line)
@@ -86,9 +83,9 @@ abbrev pub ReadRefused : Reader → List ℕ → List ℕ → ℕ → Type 0
 ReadRefused st line room k = event_numbers (reading st line room).told.event ≡ pos 0 ∷ pos k ∷ yes_no (leb 3 k && is_busy st.phase) ∷ []
 
 -- served: with no line begun, begun, 1; else a block, 2, a drop, 3, or the line's end, 4
-abbrev pub ServedWith : Place → ℤ → Type 0
-ServedWith Shut z = z ≡ pos 1
-ServedWith (At q) z = (z ≡ pos 2) ⊎ ((z ≡ pos 3) ⊎ (z ≡ pos 4))
+abbrev pub ServedWith : Option ℕ → ℤ → Type 0
+ServedWith None z = z ≡ pos 1
+ServedWith (Some q) z = (z ≡ pos 2) ⊎ ((z ≡ pos 3) ⊎ (z ≡ pos 4))
 
 abbrev pub ReadServed : Reader → List ℕ → List ℕ → Type 0
 ReadServed st line room = ServedWith st.place (get_or (event_numbers (reading st line room).told.event) 0 (pos 0))
@@ -96,9 +93,9 @@ ReadServed st line room = ServedWith st.place (get_or (event_numbers (reading st
 -- phase idle, last number none, settings kept; no line is begun
 pub record Forgets (st st' : Reader) : Type 0 where
   pub idle : phase_numbers st'.phase ≡ 0 ∷ []
-  pub none_last : st'.last ≡ Unknown
+  pub none_last : st'.last ≡ None
   pub kept : st'.settings ≡ st.settings
-  pub none_begun : st'.place ≡ Shut
+  pub none_begun : st'.place ≡ None
   pub same_system : st'.system ≡ st.system
   pub same_mode : st'.mode ≡ st.mode
 

@@ -2,7 +2,7 @@
 -- if 01's checks find no fault. A fresh reader lent a fresh writer's lines gives back the headers and the finished blocks. An accepted header
 -- written again gives the same 53 words. By 02, Item 3, the gap has the packets laid in it first, and they are listed again.
 -- Assumes nothing.
-use Rattle.std.specs.Prelude.{ℕ, zero, suc, ◌+◌, ◌-◌, ◌≤◌, Bool, true, false, List, [], ◌∷◌, ◌++◌, map, ◌≡◌, eqb, length, take, drop}
+use Rattle.std.specs.Prelude.{ℕ, zero, suc, ◌+◌, ◌-◌, ◌≤◌, Bool, true, false, List, [], ◌∷◌, ◌++◌, map, ◌≡◌, eqb, length, take, drop, Option, Some, None}
 use Rattle.lists.specs.Lists.{part}
 use Rattle.words.specs.Modes.{is_mode}
 use Rattle.line.specs.declared.settings.Settings.{Settings}
@@ -13,9 +13,6 @@ use Rattle.line.specs.Layout.{area_length, line_words, area_of}
 use Rattle.line.specs.Check.{number_of, settings_of, fits_length, line_fault}
 use Rattle.packets.specs.Packet.{Packet, packed}
 use Rattle.packets.specs.Listing.{gap_length, gap_of, listed_of, listing}
-use Rattle.course.specs.declared.Last.{Last}
-use Rattle.course.specs.declared.Last.TheVariants.{Unknown, Number}
-use Rattle.course.specs.declared.Place.TheVariants.{Shut}
 use Rattle.course.specs.Course.{is_at, place_of}
 use Rattle.writer.specs.declared.state.Writer.{Writer}
 use Rattle.writer.specs.State.{laid_of, impossible, end_in}
@@ -67,11 +64,11 @@ IsPlaced system ss b = All (λ (p : Piece). StandsOn system p.words ss p.line) b
 
 -- What is heard of lines in order: each is begun with its number, the jump from the number before it, nothing dropped, and its settings;
 -- then the blocks finished on it; then its end. No drop and no refusal.
-unfoldable pub given_back : ℕ → Last → List Sent → List Heard
+unfoldable pub given_back : ℕ → Option ℕ → List Sent → List Heard
 given_back lines before [] = []
 given_back lines before (s ∷ ss) =
     is_begun s.number (jump_from lines before s.number) false s.settings
-    ∷ (map (λ (b : Complete). is_block b.block) s.blocks ++ (is_end ∷ given_back lines (Number s.number) ss))
+    ∷ (map (λ (b : Complete). is_block b.block) s.blocks ++ (is_end ∷ given_back lines (Some s.number) ss))
 
 -- the packets laid on a line, listed: from any words that are lent for the list
 abbrev pub IsListed : ℕ → ℕ → Sent → Type 0
@@ -106,18 +103,18 @@ pub record Demand2 : Type 0 where
   pub laid : (w : Writer) (line : List ℕ) (kind : ℕ) (vs : List ℕ) → add_fault w (length line) kind vs ≡ 0
       → piece_of w line kind vs ≡ take (end_in w - place_of w.place) (drop (laid_of w.rest) (words_in w.settings.block w.mode kind vs))
   -- with no line begun, and neither 1 nor 2: begun exactly if none of the conditions 3 to 16 holds
-  pub accepted : (st : Reader) (line room : List ℕ) → read_fault st (length line) (length room) ≡ 0 → st.place ≡ Shut
+  pub accepted : (st : Reader) (line room : List ℕ) → read_fault st (length line) (length room) ≡ 0 → st.place ≡ None
       → is_begun_event (reading st line room).told.event ≡ eqb (line_fault st.system st.mode line) 0
   -- and then the call's whole answer: begun with the number and the settings that stand in the line, which written again are its 53 words
-  pub told : (st : Reader) (line room : List ℕ) → read_fault st (length line) (length room) ≡ 0 → st.place ≡ Shut → line_fault st.system st.mode line ≡ 0
+  pub told : (st : Reader) (line room : List ℕ) → read_fault st (length line) (length room) ≡ 0 → st.place ≡ None → line_fault st.system st.mode line ≡ 0
       → (reading st line room ≡ reply (begun st (number_of line) (settings_of line)) room) × (part 4 53 line ≡ header_words (number_of line) (settings_of line))
   -- else refused with the number of the fault; and what that leaves
-  pub not_told : (st : Reader) (line room : List ℕ) → read_fault st (length line) (length room) ≡ 0 → st.place ≡ Shut
+  pub not_told : (st : Reader) (line room : List ℕ) → read_fault st (length line) (length room) ≡ 0 → st.place ≡ None
       → (n : ℕ) → line_fault st.system st.mode line ≡ n → (n ≡ 0 → ⊥) → reading st line room ≡ reply (refused st n) room
   -- any system and mode, any calls, a room of 16,384 words with any content
   pub heard : (system mode : ℕ) (cs : List Call) (room : List ℕ) → length room ≡ capacity → (hs : List Heard)
       → Reads (fresh system mode) room (map (λ (s : Sent). s.words) (sent_fresh system mode cs)) hs
-      → hs ≡ given_back (system_of system).lines Unknown (sent_fresh system mode cs)
+      → hs ≡ given_back (system_of system).lines None (sent_fresh system mode cs)
   -- and such a course of reading calls exists
   pub readable : (system mode : ℕ) (cs : List Call) (room : List ℕ) → Readable (fresh system mode) room (map (λ (s : Sent). s.words) (sent_fresh system mode cs))
   -- the listing of each sent line gives exactly the packets that were laid in its gap, and no bad packet ends it

@@ -3,14 +3,12 @@
 -- that the line check refuses: a fresh reader of that system and mode, lent the rest once each and in order, hands out exactly the blocks none of
 -- whose words lay on a removed or replaced line, in order, with types and values as written.
 -- Assumes nothing.
-use Rattle.std.specs.Prelude.{ℕ, ◌+◌, ◌≤◌, ◌<◌, ◌⊎◌, List, [], ◌∷◌, ◌≡◌, length}
+use Rattle.std.specs.Prelude.{ℕ, ◌+◌, ◌≤◌, ◌<◌, ◌⊎◌, List, [], ◌∷◌, ◌≡◌, length, None}
 use Rattle.line.specs.declared.settings.Settings.{Settings}
 use Rattle.line.specs.Systems.{system_of}
 use Rattle.line.specs.Layout.{area_length}
 use Rattle.line.specs.Check.{settings_of}
-use Rattle.course.specs.declared.Place.TheVariants.{Shut}
 use Rattle.course.specs.Course.{next_number}
-use Rattle.writer.specs.declared.state.Rest.TheVariants.{NoBlock}
 use Rattle.reader.specs.declared.state.Reader.{Reader}
 use Rattle.reader.specs.State.{capacity, fresh}
 use Rattle.demands.specs.All.{All}
@@ -68,14 +66,14 @@ pub record Demand3 : Type 0 where
   -- the bound is needed: with runs of one frame it is false, of system 0 in 8-bit mode
   pub needed : HandsOut 0 8 ((system_of 0).lines + 1) → ⊥
   -- the values are those laid: of a new block those lent, and of a block lent again unchanged the same
-  pub lent : (d : Desk) (vs : List ℕ) → (d.writer.rest ≡ NoBlock) ⊎ (d.values ≡ vs) → values_now d vs ≡ vs
+  pub lent : (d : Desk) (vs : List ℕ) → (d.writer.rest ≡ None) ⊎ (d.values ≡ vs) → values_now d vs ≡ vs
   -- so, in the demand's own words: of the blocks as lent those that survive, with types and values as lent
   pub as_demanded : (system mode : ℕ) (t : Settings) (cs : List Call) (fs : List Fate) → Demanded system mode t cs fs
       → (room : List ℕ) → length room ≡ capacity → (hs : List Heard) → Reads (fresh system mode) room (remain fs (sent_fresh system mode cs)) hs
       → handed_out hs ≡ survivors (kept_at fs) (lent_fresh system mode cs)
   -- such a course of reading calls exists, each line ends within area + 2 calls, and neither 1 nor 2 is answered
   pub readable : (system mode : ℕ) (room : List ℕ) (lines : List (List ℕ)) → Readable (fresh system mode) room lines
-  pub ends : (st : Reader) (line room : List ℕ) → st.place ≡ Shut → (hs : List Heard) (st' : Reader) (room' : List ℕ) → Lends line st room hs st' room'
+  pub ends : (st : Reader) (line room : List ℕ) → st.place ≡ None → (hs : List Heard) (st' : Reader) (room' : List ℕ) → Lends line st room hs st' room'
       → length hs ≤ area_length (system_of st.system).payload (settings_of line).flag + 2
   pub served : (system mode : ℕ) (cs : List Call) (fs : List Fate) → Transmission system mode (system_of system).lines cs fs
       → (room : List ℕ) → length room ≡ capacity → (hs : List Heard) → Reads (fresh system mode) room (remain fs (sent_fresh system mode cs)) hs → All IsFrom3 hs

@@ -1,8 +1,7 @@
 -- A course of calls on a reader: lines lent once each and in order, and what is heard of them.
 -- Assumes nothing.
-use Rattle.std.specs.Prelude.{ℕ, Bool, true, false, List, [], ◌∷◌, ◌++◌, ◌≡◌, take}
+use Rattle.std.specs.Prelude.{ℕ, Bool, true, false, List, [], ◌∷◌, ◌++◌, ◌≡◌, take, Option, ℤ}
 use Rattle.line.specs.declared.settings.Settings.{Settings}
-use Rattle.reader.specs.declared.jump.Jump.{Jump}
 use Rattle.reader.specs.declared.state.Reader.{Reader}
 use Rattle.reader.specs.declared.state.Event.{Event}
 use Rattle.reader.specs.declared.state.Event.TheVariants.{Refused, Begun, Block as HandedOut, Drop, End}
@@ -13,7 +12,7 @@ use Rattle.demands.specs.Sending.{Block}
 -- What a call tells. The settings of a begun line stand in the state that comes back; a block's values are the room's first n words at that moment.
 pub data Heard : Type 0 where
   is_refused : ℕ → Bool → Heard
-  is_begun : ℕ → Jump → Bool → Settings → Heard
+  is_begun : ℕ → Option ℤ → Bool → Settings → Heard
   is_block : Block → Heard
   is_drop : ℕ → Heard
   is_end : Heard

@@ -2,7 +2,7 @@
 -- First what our writer never lays. Then what a null is for a reading call: an open phase, until it ends and is not handed out. That the reader
 -- hands out no null is said by its contract (`reading`, by the machine's step): our writer lays none, so that demands 2 and 3 meet none.
 -- Assumes nothing.
-use Rattle.std.specs.Prelude.{ℕ, ◌+◌, ◌≤◌, Bool, true, false, ◌&&◌, not, List, [], ◌∷◌, ◌++◌, map, ◌⊎◌, ◌≡◌, eqb, ltb, length, get_or, take, drop}
+use Rattle.std.specs.Prelude.{ℕ, ◌+◌, ◌≤◌, Bool, true, false, ◌&&◌, not, List, [], ◌∷◌, ◌++◌, map, ◌⊎◌, ◌≡◌, eqb, ltb, length, get_or, take, drop, Some, None}
 use Rattle.lists.specs.Tests.{pick}
 use Rattle.lists.specs.Lists.{part, each}
 use Rattle.words.specs.Modes.{value_of}
@@ -10,8 +10,6 @@ use Rattle.words.specs.Class.{class_of, separator, end_code, null_word, is_code}
 use Rattle.line.specs.Systems.{system_of}
 use Rattle.line.specs.Fixed.{is_variable}
 use Rattle.line.specs.Check.{number_of, settings_of, line_fault}
-use Rattle.course.specs.declared.Last.TheVariants.{Unknown, Number}
-use Rattle.course.specs.declared.Place.TheVariants.{Shut, At}
 use Rattle.writer.specs.declared.state.Writer.{Writer}
 use Rattle.writer.specs.State.{most}
 use Rattle.writer.specs.Block.{count_words, words_in}
@@ -77,26 +75,26 @@ pub record Nulls : Type 0 where
   pub is_open : (p : Phase) → in_null p ≡ true → is_busy p ≡ true
   pub possible : (st : Reader) (k : ℕ) → impossible st ≡ impossible (becomes st st.last st.settings st.place (typed_as k st.phase))
   -- a refused line drops it, and says so
-  pub refused_drops : (st : Reader) (line room : List ℕ) → read_fault st (length line) (length room) ≡ 0 → st.place ≡ Shut → in_null st.phase ≡ true
+  pub refused_drops : (st : Reader) (line room : List ℕ) → read_fault st (length line) (length room) ≡ 0 → st.place ≡ None → in_null st.phase ≡ true
       → (k : ℕ) → line_fault st.system st.mode line ≡ k → 1 ≤ k
-      → reading st line room ≡ reply (record { event = Refused k true; state = becomes st Unknown st.settings Shut Idle }) room
+      → reading st line room ≡ reply (record { event = Refused k true; state = becomes st None st.settings None Idle }) room
   -- a line with a jump or with changed settings drops it, and says so; the next line with equal settings goes on with it
-  pub begun_drops : (st : Reader) (line room : List ℕ) → read_fault st (length line) (length room) ≡ 0 → st.place ≡ Shut → in_null st.phase ≡ true
+  pub begun_drops : (st : Reader) (line room : List ℕ) → read_fault st (length line) (length room) ≡ 0 → st.place ≡ None → in_null st.phase ≡ true
       → line_fault st.system st.mode line ≡ 0 → goes_on st (number_of line) (settings_of line) ≡ false
       → reading st line room ≡ reply (record {
         event = Begun (number_of line) (jump_from (system_of st.system).lines st.last (number_of line)) true;
-        state = becomes st (Number (number_of line)) (settings_of line) (At 0) Idle;
+        state = becomes st (Some (number_of line)) (settings_of line) (Some 0) Idle;
       }) room
-  pub begun_keeps : (st : Reader) (line room : List ℕ) → read_fault st (length line) (length room) ≡ 0 → st.place ≡ Shut → in_null st.phase ≡ true
+  pub begun_keeps : (st : Reader) (line room : List ℕ) → read_fault st (length line) (length room) ≡ 0 → st.place ≡ None → in_null st.phase ≡ true
       → line_fault st.system st.mode line ≡ 0 → goes_on st (number_of line) (settings_of line) ≡ true
       → reading st line room ≡ reply (record {
         event = Begun (number_of line) (jump_from (system_of st.system).lines st.last (number_of line)) false;
-        state = becomes st (Number (number_of line)) (settings_of line) (At 0) st.phase;
+        state = becomes st (Some (number_of line)) (settings_of line) (Some 0) st.phase;
       }) room
   -- the line's end leaves it open
-  pub end_keeps : (st : Reader) (q : ℕ) (line room : List ℕ) → read_fault st (length line) (length room) ≡ 0 → st.place ≡ At q
+  pub end_keeps : (st : Reader) (q : ℕ) (line room : List ℕ) → read_fault st (length line) (length room) ≡ 0 → st.place ≡ Some q
       → (p : Phase) (n : ℕ) (r : List ℕ) → in_null p ≡ true → walk_from st q line room ≡ walked_to p Nothing n r
-      → reading st line room ≡ reply (record { event = End; state = becomes st st.last st.settings Shut p }) r
+      → reading st line room ≡ reply (record { event = End; state = becomes st st.last st.settings None p }) r
   -- a whole null reports nothing: the walk is that behind it, with its values in the room. Its count is 0 or met; any words may follow.
   pub not_handed_out : (mode n : ℕ) (ds ws room : List ℕ) → (n ≡ 0) ⊎ (n ≡ length ds) → n ≤ most → length ds ≤ length room → each (is_datum mode) ds ≡ true
       → walk_of mode Idle (null_with n ds ++ ws) room ≡ past (length ds + 7) (walk_of mode Idle ws (map (value_of mode) ds ++ drop (length ds) room))

@@ -1,18 +1,17 @@
 -- What a writer can be made to send: blocks that 17 and 18 let pass, over as many lines as they need; and a line that can be closed.
 -- Assumes nothing.
-use Rattle.std.specs.Prelude.{ℕ, ◌+◌, ◌^◌, ◌≤◌, ◌<◌, Bool, false, List, [], ◌∷◌, map, ◌≡◌, length}
+use Rattle.std.specs.Prelude.{ℕ, ◌+◌, ◌^◌, ◌≤◌, ◌<◌, Bool, false, List, [], ◌∷◌, map, ◌≡◌, length, Option, Some, None}
 use Rattle.line.specs.declared.settings.Settings.{Settings}
 use Rattle.line.specs.Systems.{system_of}
 use Rattle.line.specs.Fixed.{is_variable, size_of, places_of}
 use Rattle.course.specs.Course.{next_number, blocks_end}
-use Rattle.writer.specs.declared.state.Rest.{Rest}
-use Rattle.writer.specs.declared.state.Rest.TheVariants.{NoBlock, Part}
 use Rattle.writer.specs.declared.state.Writer.{Writer}
 use Rattle.writer.specs.declared.state.Answer.TheVariants.{Done}
 use Rattle.writer.specs.Closing.{closing}
 use Rattle.writer.specs.Filling.{joined, Filling}
 use Rattle.demands.specs.All.{All}
 use Rattle.demands.specs.Sending.{Call, Block, Complete, Sent, sent_fresh, blocks_of}
+use Rattle.writer.specs.declared.state.Part.{Part}
 
 -- A block that 17 and 18 let pass on a line of these settings.
 pub record Passes (mode : ℕ) (t : Settings) (b : Block) : Type 0 where
@@ -52,9 +51,9 @@ pub record Writes (system mode : ℕ) (f v : Bool) (n : ℕ) (t : Settings) (bs 
   pub one_line : is_variable t.block ≡ false → length bs ≤ places_of (system_of system).payload t.block → length (sent_fresh system mode calls) ≡ 1
 
 -- the type of an unfinished block is one byte, as the writer's state has it
-abbrev pub TypeHeld : Rest → Type 0
-TypeHeld NoBlock = Unit {0}
-TypeHeld (Part kind n j) = kind ≤ 0xFF
+abbrev pub TypeHeld : Option Part → Type 0
+TypeHeld None = Unit {0}
+TypeHeld (Some p) = p.kind ≤ 0xFF
 
 -- Calls on an open line, and then a closing that is done.
 pub record Closable (w : Writer) (line : List ℕ) : Type 0 where

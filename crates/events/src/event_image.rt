@@ -1,141 +1,135 @@
 // What a reading call reports, as 32 bytes.
-ghost use Rattle.std.specs.Prelude.{◌≡◌, ◌∷◌, eqb, length};
+ghost use Rattle.std.specs.Prelude.{◌≡◌, ℕ, false, ◌∷◌, eqb, length};
 ghost use Rattle.lists.specs.Tests.{pick};
 ghost use Rattle.fields.specs.Fields.{bytes_for};
 ghost use Rattle.events.specs.EventImage.{flag_byte, is_known, is_behind, size_of_jump, event_fields, event_image};
 
 use fields::numbers;
-use reader::jump::Jump;
 use reader::state::Event;
 use reader::within::Report;
 
-// 1 or 0.
-fn flag_byte(flag: bool) -> u8
-    ensures { result ≡ flag_byte flag }
-{
-    if flag { 1 } else { 0 }
-}
-
-// The jump's size, 0 where it is unknown.
-fn size_of_jump(jump: Jump) -> usize
-    ensures { result ≡ size_of_jump jump }
-{
-    match jump {
-        Jump::Unknown => 0,
-        Jump::Known(d) => lists::size(d),
-    }
-}
-
-// Below 0.
-fn behind(d: i32) -> u8
-    ensures { result ≡ is_behind (Jump.Known d) }
-{
-    if d < 0 {
-        return 1;
-    }
-    0
-}
-
-// The jump is known: 1 or 0.
-fn is_known(jump: Jump) -> u8
-    ensures { result ≡ is_known jump }
-{
-    match jump {
-        Jump::Unknown => 0,
-        Jump::Known(_) => 1,
-    }
-}
-
-// The jump is behind: 1 or 0.
-fn is_behind(jump: Jump) -> u8
-    ensures { result ≡ is_behind jump }
-{
-    match jump {
-        Jump::Unknown => 0,
-        Jump::Known(d) => behind(d),
-    }
-}
-
-// The kind, whether an open block was dropped, what is known of the jump, and the number.
-fn put_kind(kind: u8, dropped: u8, jump: Jump, number: u16, out: &mut [u8])
-    requires { length out.old ≡ 8 }
-    ensures { out.new ≡ kind ∷ dropped ∷ is_known jump ∷ is_behind jump ∷ bytes_for 4 number }
-{
-    let known = is_known(jump);
-    let behind = is_behind(jump);
-    lists::copy_bytes(&[kind, dropped, known, behind], &mut out[..4]);
-    numbers::put_number(number as usize, &mut out[4..8]);
-}
-
-// An image by its fields.
-fn put_fields(
+// The fields of an image. Those that are not used are 0.
+#[derive(Clone, Copy)]
+struct Fields {
     kind: u8,
-    dropped: u8,
-    jump: Jump,
+    dropped: bool,
+    jump: Option<i32>,
     number: u16,
     block: u8,
     long: usize,
-    consumed: usize,
-    out: &mut [u8],
-)
-    requires { length out.old ≡ 32 }
-    ensures { out.new ≡ event_fields kind dropped jump number block long consumed }
-{
-    put_kind(kind, dropped, jump, number, &mut out[..8]);
-    numbers::put_fours(size_of_jump(jump), block as usize, &mut out[8..16]);
-    numbers::put_eights(long, consumed, &mut out[16..32]);
 }
 
-// One that tells a number at most, and whether an open block was dropped.
-fn put_number(kind: u8, dropped: u8, number: u16, consumed: usize, out: &mut [u8])
-    requires { length out.old ≡ 32 }
-    ensures { out.new ≡ event_fields kind dropped Jump.Unknown number 0 0 consumed }
+// The jump's size, 0 where it is unknown.
+fn size_of_jump(jump: Option<i32>) -> usize
+    ensures { result ≡ size_of_jump jump }
 {
-    put_fields(kind, dropped, Jump::Unknown, number, 0, 0, consumed, out);
+    match jump {
+        None => 0,
+        Some(d) => d.unsigned_abs() as usize,
+    }
 }
 
-// The image of an event.
-fn put_told(event: Event, consumed: usize, out: &mut [u8])
-    requires { length out.old ≡ 32 }
-    ensures { out.new ≡ event_image (Report.Told event) consumed }
+// The jump is known: 1 or 0.
+fn is_known(jump: Option<i32>) -> u8
+    ensures { result ≡ is_known jump }
 {
-    match event {
-        Event::Refused { answer, dropped } => put_number(
-            0,
-            flag_byte(dropped),
-            answer as u16,
-            consumed,
-            out,
-        ),
-        Event::Begun {
+    u8::from(matches!(jump, Some(_)))
+}
+
+// The jump is behind: 1 or 0.
+fn is_behind(jump: Option<i32>) -> u8
+    ensures { result ≡ is_behind jump }
+{
+    u8::from(matches!(jump, Some(d) if d < 0))
+}
+
+impl Fields {
+    // Those of a report that tells its kind alone.
+    fn of_kind(kind: u8) -> Fields
+        ensures { result ≡ record { kind = kind; dropped = false; jump = None; number = 0; block = 0; long = 0 } }
+    {
+        Fields {
+            kind,
+            dropped: false,
+            jump: None,
+            number: 0,
+            block: 0,
+            long: 0,
+        }
+    }
+
+    // The kind, whether an open block was dropped, what is known of the jump, and the number.
+    fn put_kind(self, out: &mut [u8])
+        requires { length out.old ≡ 8 }
+        ensures { out.new ≡ self.kind ∷ flag_byte self.dropped ∷ is_known self.jump ∷ is_behind self.jump ∷ bytes_for 4 self.number }
+    {
+        let (front, number) = out.split_at_mut(4);
+        front.copy_from_slice(&[
+            self.kind,
+            u8::from(self.dropped),
+            is_known(self.jump),
+            is_behind(self.jump),
+        ]);
+        numbers::put_number(usize::from(self.number), number);
+    }
+
+    // The image, with the number consumed.
+    #[tactic(auto, unfolding(lists::specs::Tests::pick))]
+    fn put(self, consumed: usize, out: &mut [u8])
+        requires { length out.old ≡ 32 }
+        ensures { out.new ≡ event_fields self.kind (flag_byte self.dropped) self.jump self.number self.block self.long consumed }
+    {
+        let (kind, rest) = out.split_at_mut(8);
+        let (sizes, counts) = rest.split_at_mut(8);
+        self.put_kind(kind);
+        numbers::put_fours(size_of_jump(self.jump), usize::from(self.block), sizes);
+        numbers::put_eights(self.long, consumed, counts);
+    }
+}
+
+// The fields of a report.
+fn fields_of(report: Report) -> Fields
+    ensures { (c : ℕ) → event_fields result.kind (flag_byte result.dropped) result.jump result.number result.block result.long c ≡ event_image report c }
+{
+    match report {
+        Report::Told(Event::Refused { answer, dropped }) => Fields {
+            number: u16::from(answer),
+            dropped,
+            ..Fields::of_kind(0)
+        },
+        Report::Told(
+            Event::Begun {
+                number,
+                jump,
+                dropped,
+            },
+        ) => Fields {
             number,
             jump,
             dropped,
-        } => put_fields(1, flag_byte(dropped), jump, number, 0, 0, consumed, out),
-        Event::Block { kind, length } => put_fields(
-            2,
-            0,
-            Jump::Unknown,
-            0,
-            kind,
-            length,
-            consumed,
-            out,
-        ),
-        Event::Drop { reason } => put_number(3, 0, reason as u16, consumed, out),
-        Event::End => put_number(4, 0, 0, consumed, out),
+            ..Fields::of_kind(1)
+        },
+        Report::Told(Event::Block { kind, length }) => Fields {
+            block: kind,
+            long: length,
+            ..Fields::of_kind(2)
+        },
+        Report::Told(Event::Drop { reason }) => Fields {
+            number: u16::from(reason),
+            ..Fields::of_kind(3)
+        },
+        Report::Told(Event::End) => Fields::of_kind(4),
+        Report::Paused => Fields::of_kind(5),
     }
 }
 
 // The image of a report, into 32 bytes, and else nothing.
+#[tactic(auto, unfolding(lists::specs::Tests::pick))]
 pub fn put_event(report: Report, consumed: usize, out: &mut [u8])
     ensures { out.new ≡ pick (eqb (length out.old) 32) (event_image report consumed) out.old }
 {
     if out.len() != 32 {
         return;
     }
-    match report {
-        Report::Paused => put_number(5, 0, 0, consumed, out),
-        Report::Told(event) => put_told(event, consumed, out),
-    }
+    fields_of(report).put(consumed, out);
 }

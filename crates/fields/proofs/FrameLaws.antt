@@ -1,5 +1,6 @@
 -- What the images of reader and writer share comes back: each field of the frame is read where it was written, and bytes give fields of their widths.
 -- Assumes nothing.
+use Rattle.std.specs.Prelude.{Option, Some, None}
 use mathlib.Core.Path.{◌≡◌, refl, sym, ap, ap₂, ◌∙◌}
 use mathlib.Core.Bool.{Bool, true}
 use mathlib.Core.List.{List, [], ◌∷◌, ◌++◌, append_assoc}
@@ -12,10 +13,6 @@ use Rattle.lists.specs.Lists.{part, each}
 use Rattle.lists.proofs.Lists.{length_part, get_d_part, each_at, each_all}
 use Rattle.line.specs.declared.settings.Settings.{Settings}
 use Rattle.line.specs.Settings.{Held, small}
-use Rattle.course.specs.declared.Last.{Last}
-use Rattle.course.specs.declared.Last.TheVariants.{Unknown, Number}
-use Rattle.course.specs.declared.Place.{Place}
-use Rattle.course.specs.declared.Place.TheVariants.{Shut, At}
 use Rattle.course.specs.Course.{place_of}
 use Rattle.fields.specs.Fields.{bytes_for, number_from, settings_bytes, settings_from}
 use Rattle.fields.specs.Frame.{last_bytes, last_by, place_byte, place_by, framed, last_in, place_in, held_in}
@@ -69,42 +66,42 @@ settings_held b h l =
     }
 
 -- ---- the frame
-pub length_last : (l : Last) → length (last_bytes l) ≡ 3
+pub length_last : (l : Option ℕ) → length (last_bytes l) ≡ 3
 unfolding bytes_for
-length_last Unknown = refl
-length_last (Number x) = refl
+length_last None = refl
+length_last (Some x) = refl
 
 module _ (tag system mode : ℕ) where
-  pub length_framed : (l : Last) (p : Place) (kind : ℕ) (held : List ℕ) (t : Settings) → length held ≡ 21 → Held t → length (framed tag system mode l p kind held t) ≡ 80
+  pub length_framed : (l : Option ℕ) (p : Option ℕ) (kind : ℕ) (held : List ℕ) (t : Settings) → length held ≡ 21 → Held t → length (framed tag system mode l p kind held t) ≡ 80
   unfolding framed
   length_framed l p kind held t h s = simp length-append (omega (arith, length_last l, length_bytes 8 (place_of p), h, length_settings t s))
 
-  at_last : (l : Last) (p : Place) (kind : ℕ) (held : List ℕ) (t : Settings) → held_last l ≡ true → last_in (framed tag system mode l p kind held t) ≡ l
+  at_last : (l : Option ℕ) (p : Option ℕ) (kind : ℕ) (held : List ℕ) (t : Settings) → held_last l ≡ true → last_in (framed tag system mode l p kind held t) ≡ l
   unfolding framed last_in bytes_for
-  at_last Unknown p kind held t h = refl
-  at_last (Number x) p kind held t h = ap Number (number_bytes 2 x (ltb-true _ _ h))
+  at_last None p kind held t h = refl
+  at_last (Some x) p kind held t h = ap Some (number_bytes 2 x (ltb-true _ _ h))
 
-  at_begun : (l : Last) (p : Place) (kind : ℕ) (held : List ℕ) (t : Settings) → get_or (framed tag system mode l p kind held t) 6 0 ≡ place_byte p
+  at_begun : (l : Option ℕ) (p : Option ℕ) (kind : ℕ) (held : List ℕ) (t : Settings) → get_or (framed tag system mode l p kind held t) 6 0 ≡ place_byte p
   unfolding framed bytes_for
-  at_begun Unknown p kind held t = refl
-  at_begun (Number x) p kind held t = refl
+  at_begun None p kind held t = refl
+  at_begun (Some x) p kind held t = refl
 
-  at_kind : (l : Last) (p : Place) (kind : ℕ) (held : List ℕ) (t : Settings) → get_or (framed tag system mode l p kind held t) 7 0 ≡ kind
+  at_kind : (l : Option ℕ) (p : Option ℕ) (kind : ℕ) (held : List ℕ) (t : Settings) → get_or (framed tag system mode l p kind held t) 7 0 ≡ kind
   unfolding framed bytes_for
-  at_kind Unknown p kind held t = refl
-  at_kind (Number x) p kind held t = refl
+  at_kind None p kind held t = refl
+  at_kind (Some x) p kind held t = refl
 
-  at_place : (l : Last) (p : Place) (kind : ℕ) (held : List ℕ) (t : Settings)
+  at_place : (l : Option ℕ) (p : Option ℕ) (kind : ℕ) (held : List ℕ) (t : Settings)
       → drop 8 (framed tag system mode l p kind held t) ≡ bytes_for 8 (place_of p) ++ (held ++ (settings_bytes t ++ (0 ∷ 0 ∷ [])))
   unfolding framed bytes_for
-  at_place Unknown p kind held t = refl
-  at_place (Number x) p kind held t = refl
+  at_place None p kind held t = refl
+  at_place (Some x) p kind held t = refl
 
-place_back : (p : Place) → held_place p ≡ true → place_by (place_byte p) (number_from (bytes_for 8 (place_of p))) ≡ p
-place_back Shut h = refl
-place_back (At q) h = ap At (number_bytes 8 q (ltb-true _ _ h))
+place_back : (p : Option ℕ) → held_place p ≡ true → place_by (place_byte p) (number_from (bytes_for 8 (place_of p))) ≡ p
+place_back None h = refl
+place_back (Some q) h = ap Some (number_bytes 8 q (ltb-true _ _ h))
 
-pub record FrameBack (system mode : ℕ) (l : Last) (p : Place) (kind : ℕ) (held : List ℕ) (t : Settings) (b : List ℕ) : Type 0 where
+pub record FrameBack (system mode : ℕ) (l : Option ℕ) (p : Option ℕ) (kind : ℕ) (held : List ℕ) (t : Settings) (b : List ℕ) : Type 0 where
   pub system_is : get_or b 1 0 ≡ system
   pub mode_is : get_or b 2 0 ≡ mode
   pub last_is : last_in b ≡ l
@@ -113,7 +110,7 @@ pub record FrameBack (system mode : ℕ) (l : Last) (p : Place) (kind : ℕ) (he
   pub held_is : held_in b ≡ held
   pub settings_is : settings_from (part 37 41 b) ≡ t
 
-pub frame_back : (tag system mode : ℕ) (l : Last) (p : Place) (kind : ℕ) (held : List ℕ) (t : Settings) → held_last l ≡ true → held_place p ≡ true → length held ≡ 21 → Held t
+pub frame_back : (tag system mode : ℕ) (l : Option ℕ) (p : Option ℕ) (kind : ℕ) (held : List ℕ) (t : Settings) → held_last l ≡ true → held_place p ≡ true → length held ≡ 21 → Held t
     → FrameBack system mode l p kind held t (framed tag system mode l p kind held t)
 unfolding framed place_in held_in
 frame_back tag system mode l p kind held t hl hp hh ht =
@@ -174,11 +171,11 @@ frame_held b h l =
     }
 
 -- ---- the frame laid in three parts: in front of the place; the place and what is held of the block; the settings
-pub frame_join : (tag system mode : ℕ) (l : Last) (p : Place) (kind : ℕ) (held : List ℕ) (t : Settings)
+pub frame_join : (tag system mode : ℕ) (l : Option ℕ) (p : Option ℕ) (kind : ℕ) (held : List ℕ) (t : Settings)
     → (tag ∷ system ∷ mode ∷ last_bytes l) ++ ((place_byte p ∷ kind ∷ (bytes_for 8 (place_of p) ++ held)) ++ (settings_bytes t ++ (0 ∷ 0 ∷ []))) ≡ framed tag system mode l p kind held t
 unfolding framed
 frame_join tag system mode l p kind held t =
     ap (λ (x : List ℕ). tag ∷ system ∷ mode ∷ (last_bytes l ++ (place_byte p ∷ kind ∷ x))) (append_assoc (bytes_for 8 (place_of p)) held (settings_bytes t ++ (0 ∷ 0 ∷ [])))
 
-pub length_stand : (p : Place) (kind : ℕ) (held : List ℕ) → length held ≡ 21 → length (place_byte p ∷ kind ∷ (bytes_for 8 (place_of p) ++ held)) ≡ 31
+pub length_stand : (p : Option ℕ) (kind : ℕ) (held : List ℕ) → length held ≡ 21 → length (place_byte p ∷ kind ∷ (bytes_for 8 (place_of p) ++ held)) ≡ 31
 length_stand p kind held h = simp length-append (omega (arith, length_bytes 8 (place_of p), h))

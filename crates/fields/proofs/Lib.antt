@@ -1,4 +1,3 @@
 pub mod NumberLaws
-pub mod JoinLaws
 pub mod PartLaws
 pub mod FrameLaws

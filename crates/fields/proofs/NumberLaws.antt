@@ -2,19 +2,21 @@
 -- Assumes nothing.
 use mathlib.Core.Path.{◌≡◌, refl, sym, ap, ap₂, ◌∙◌}
 use mathlib.Core.Bool.{Bool, true, false}
-use mathlib.Core.List.{List, [], ◌∷◌, ◌++◌}
+use mathlib.Core.List.{List, [], ◌∷◌, ◌++◌, reverse, append_assoc, append-nil}
 use Prim.Native.Nat.{ℕ, zero, suc, ◌+◌, ◌-◌, ◌*◌, ◌/◌, ◌%◌, ◌^◌, ◌<◌, ◌≤◌}
-use native.Mathlib.Nat.{pow-suc, pow-le-pow_right, mod-add-div', div-lt_iff_lt-mul}
+use native.Mathlib.Nat.{add-zero, pow-suc, pow-le-pow_right, mod-add-div', div-lt_iff_lt-mul}
+use native.Mathlib.Numerals.{add-one}
 use native.Mathlib.Omega.{arith}
 use lib.Dec.{eqb, leb}
 use lib.ListN.{length, get_or, take, drop, set, replicate, drop_of_length-le, length-append, length-drop}
-use lib.Seq.{length-take-le}
-use borrow.Author.Tests.{ltb-true, le-leb, eqb-true, eq-eqb}
+use lib.Seq.{length-take-le, take_all, take-suc-set}
+use Rattle.std.proofs.lemmas.List.{length-reverse, get_or-reverse, get_or_default}
+use borrow.Author.Tests.{ltb-true, lt-ltb, le-leb, eqb-true, eq-eqb}
 use Rattle.lists.specs.Lists.{each, part, same}
 use Rattle.lists.specs.Tests.{pick}
-use Rattle.lists.proofs.Lists.{length_part, same_eq, eq_same}
+use Rattle.lists.proofs.Lists.{part_two, length_part, each_all, same_eq, eq_same}
 use Rattle.lists.proofs.Tests.{both_true, true_false, pick_true}
-use Rattle.lists.proofs.Loops.{Filling, fill_start, fill_turn, next_drop}
+use Rattle.lists.proofs.Loops.{next_drop}
 use Rattle.line.specs.Settings.{small}
 use Rattle.fields.specs.Fields.{bytes_for, number_from}
 
@@ -45,6 +47,10 @@ bytes_number (b ∷ s) h =
     let less = ltb-true b 256 one in
     ap₂ (λ (x : ℕ) (l : List ℕ). x ∷ l) (low b (number_from s) less) (ap (bytes_for (length s)) (high b (number_from s) less) ∙ bytes_number s rest)
 
+-- elements below 256 are bytes
+pub each_small : (b : List ℕ) → ((i : ℕ) → get_or b i 0 < 256) → each small b ≡ true
+each_small b h = each_all small b (λ i _. lt-ltb (get_or b i 0) 256 (h i))
+
 -- ---- how large a number is
 more : (p b x : ℕ) → b < 256 → x < p → b + x * 256 < p * 256
 more p b x h l = omega arith
@@ -62,18 +68,7 @@ number_less (b ∷ s) h =
 pub fits_eight : (k : ℕ) → k ≤ 8 → 256 ^ k ≤ 2 ^ 64
 fits_eight k h = pow-le-pow_right (omega arith) h
 
--- ---- a loop that puts the k bytes of n: i stand, and `left` has the others
-pub record Putting (k n : ℕ) (d out : List ℕ) (left i : ℕ) : Type 0 where
-  pub filling : Filling (bytes_for k n) d out i
-  pub within : i ≤ k
-  pub rest : drop i (bytes_for k n) ≡ bytes_for (k - i) left
-
-pub put_start : (n : ℕ) (d : List ℕ) → Putting (length d) n d d n 0
-put_start n d = record { filling = fill_start (bytes_for (length d) n) d (sym (length_bytes (length d) n)); within = omega arith; rest = ap (λ (m : ℕ). bytes_for m n) (whole (length d)) }
-  where
-    whole : (k : ℕ) → k ≡ k - 0
-    whole k = omega arith
-
+-- ---- a loop that puts k bytes: i stand, and `left` has the others
 -- the byte that is next, and those behind it
 byte_next : (k i left : ℕ) → i < k → bytes_for (k - i) left ≡ left % 256 ∷ bytes_for (k - (i + 1)) (left / 256)
 unfolding bytes_for
@@ -82,82 +77,84 @@ byte_next k i left h = ap (λ (m : ℕ). bytes_for m left) (one k i h)
     one : (k i : ℕ) → i < k → k - i ≡ suc (k - (i + 1))
     one k i h = omega arith
 
-pub put_turn : (k n left i : ℕ) (d out : List ℕ) → Putting k n d out left i → i < k → Putting k n d (set out i (left % 256)) (left / 256) (i + 1)
-put_turn k n left i d out p h =
-    let ws = bytes_for k n in
-    let inside : i < length ws = omega (arith, length_bytes k n) in
-    let both : get_or ws i 0 ∷ drop (i + 1) ws ≡ left % 256 ∷ bytes_for (k - (i + 1)) (left / 256) = sym (next_drop ws i inside) ∙ p.rest ∙ byte_next k i left h in
-    let here : left % 256 ≡ get_or ws i 0 = cc in
-    record { filling = fill_turn ws d out i (left % 256) p.filling inside here; within = omega arith; rest = cc }
+pub put_turn : (k left i : ℕ) (out ws : List ℕ) → length out ≡ k → i < k → take i out ++ bytes_for (k - i) left ≡ ws
+    → take (i + 1) (set out i (left % 256)) ++ bytes_for (k - (i + 1)) (left / 256) ≡ ws
+put_turn k left i out ws long h e =
+    ap (λ (l : List ℕ). l ++ bytes_for (k - (i + 1)) (left / 256)) (ap (λ (m : ℕ). take m (set out i (left % 256))) (add-one i) ∙ take-suc-set out i (left % 256) (omega (arith, long)))
+    ∙ append_assoc (take i out) (left % 256 ∷ []) (bytes_for (k - (i + 1)) (left / 256))
+    ∙ ap (λ (l : List ℕ). take i out ++ l) (sym (byte_next k i left h))
+    ∙ e
 
--- ---- a loop that reads a number from its last byte on: x is spelled by the bytes from i on
-pub record Spelling (b : List ℕ) (x i : ℕ) : Type 0 where
-  pub within : i ≤ length b
-  pub is : x ≡ number_from (drop i b)
-  pub less : x < 256 ^ (length b - i)
-  pub back : bytes_for (length b - i) x ≡ drop i b
+pub put_end : (k left i : ℕ) (out ws : List ℕ) → length out ≡ k → k ≤ i → take i out ++ bytes_for (k - i) left ≡ ws → out ≡ ws
+unfolding bytes_for
+put_end k left i out ws long h e =
+    let none : k - i ≡ 0 = omega arith in
+    sym (append-nil out)
+    ∙ ap₂ (λ (l r : List ℕ). l ++ r) (sym (take_all i out (omega (arith, long)))) (ap (λ (m : ℕ). bytes_for m left) (sym none))
+    ∙ e
 
-pub spell_start : (b : List ℕ) → Spelling b 0 (length b)
+-- ---- a loop that reads a number from its last byte on: x is spelled by the last n bytes
+pub record Spelling (b : List ℕ) (x n : ℕ) : Type 0 where
+  pub within : n ≤ length b
+  pub is : x ≡ number_from (drop (length b - n) b)
+  pub less : x < 256 ^ n
+  pub back : bytes_for n x ≡ drop (length b - n) b
+
+pub spell_start : (b : List ℕ) → Spelling b 0 0
 unfolding number_from bytes_for
 spell_start b =
-    record {
-      within = omega arith;
-      is = sym (ap number_from (drop_of_length-le b {i = length b} (omega arith)));
-      less = none (length b);
-      back = nothing (length b) ∙ sym (drop_of_length-le b {i = length b} (omega arith));
-    }
-  where
-    none : (k : ℕ) → 0 < 256 ^ (k - k)
-    none k = let e : k - k ≡ 0 = omega arith in rw e (omega arith)
-
-    nothing : (k : ℕ) → bytes_for (k - k) 0 ≡ []
-    nothing k = let e : k - k ≡ 0 = omega arith in ap (λ (m : ℕ). bytes_for m 0) e
+    let none = drop_of_length-le b {i = length b - 0} (omega arith) in
+    record { within = omega arith; is = sym (ap number_from none); less = omega arith; back = sym none }
 
 -- the bytes of a number with one byte more
 one_more : (k b x : ℕ) → b < 256 → bytes_for (suc k) (b + x * 256) ≡ b ∷ bytes_for k x
 unfolding bytes_for
 one_more k b x h = ap₂ (λ (y z : ℕ). y ∷ bytes_for k z) (low b x h) (high b x h)
 
-pub spell_turn : (b : List ℕ) (x i : ℕ) → Spelling b x i → 0 < i → get_or b (i - 1) 0 < 256 → Spelling b (get_or b (i - 1) 0 + x * 256) (i - 1)
+-- the element that is next from the last on
+pub next_back : (b : List ℕ) (n v r : ℕ) → r ≡ v → (n < length (reverse b)) × (v ≡ get_or (reverse b) n v) → (n < length b) × (r ≡ get_or b (length b - 1 - n) 0)
+next_back b n v r e (within, is) =
+    let less : n < length b = omega (arith, within, length-reverse b) in
+    let inside : length b - 1 - n < length b = omega arith in
+    (less, e ∙ is ∙ get_or-reverse b n v less ∙ get_or_default b (length b - 1 - n) v 0 inside)
+
+pub spell_turn : (b : List ℕ) (x n v : ℕ) → Spelling b x n → (n < length b) × (v ≡ get_or b (length b - 1 - n) 0) → v < 256 → Spelling b (v + x * 256) (n + 1)
 unfolding number_from
-spell_turn b x i s h l =
-    let j = i - 1 in
-    let back : j + 1 ≡ i = omega arith in
-    let inside : j < length b = omega (arith, s.within) in
-    let more : length b - j ≡ suc (length b - i) = omega (arith, s.within) in
+spell_turn b x n v s (h, e) l =
+    let j = length b - 1 - n in
+    let inside : j < length b = omega arith in
+    let there : length b - (n + 1) ≡ j = omega arith in
+    let behind : j + 1 ≡ length b - n = omega arith in
+    let next : drop (length b - (n + 1)) b ≡ v ∷ drop (length b - n) b =
+    ap (λ (m : ℕ). drop m b) there ∙ next_drop b j inside ∙ ap₂ (λ (y m : ℕ). y ∷ drop m b) (sym e) behind
+    in
     record {
       within = omega arith;
-      is = ap (λ (y : ℕ). get_or b j 0 + y * 256) (s.is ∙ ap (λ (m : ℕ). number_from (drop m b)) (sym back)) ∙ sym (ap number_from (next_drop b j inside));
-      less = rw more (number_more (length b - i) (get_or b j 0) x l s.less);
-      back =
-          ap (λ (k : ℕ). bytes_for k (get_or b j 0 + x * 256)) more
-          ∙ one_more (length b - i) (get_or b j 0) x l
-          ∙ ap (λ (t : List ℕ). get_or b j 0 ∷ t) (s.back ∙ ap (λ (m : ℕ). drop m b) (sym back))
-          ∙ sym (next_drop b j inside);
+      is = ap (λ (y : ℕ). v + y * 256) s.is ∙ sym (ap number_from next);
+      less = rw (add-one n) (number_more n v x l s.less);
+      back = ap (λ (k : ℕ). bytes_for k (v + x * 256)) (add-one n) ∙ one_more n v x l ∙ ap (λ (t : List ℕ). v ∷ t) s.back ∙ sym next;
     }
 
 -- the number read so far, with one byte more, fits where there are no more than eight bytes
-pub spell_fits : (b : List ℕ) (x i : ℕ) → Spelling b x i → 0 < i → length b ≤ 8 → get_or b (i - 1) 0 < 256 → get_or b (i - 1) 0 + x * 256 < 2 ^ 64
-spell_fits b x i s h e l =
-    let less = number_more (length b - i) (get_or b (i - 1) 0) x l s.less in
-    let top = fits_eight (suc (length b - i)) (short (length b) i h e s.within) in
+pub spell_fits : (b : List ℕ) (x n v : ℕ) → Spelling b x n → n < length b → length b ≤ 8 → v < 256 → v + x * 256 < 2 ^ 64
+spell_fits b x n v s h e l =
+    let less = number_more n v x l s.less in
+    let top = fits_eight (suc n) (omega arith) in
     under _ _ _ less top
   where
-    short : (n i : ℕ) → 0 < i → n ≤ 8 → i ≤ n → suc (n - i) ≤ 8
-    short n i h e w = omega arith
-
     under : (a b c : ℕ) → a < b → b ≤ c → a < c
     under a b c x y = omega arith
 
-pub spell_end : (b : List ℕ) (x i : ℕ) → Spelling b x i → i ≤ 0 → (x ≡ number_from b) × (x < 256 ^ length b) × (bytes_for (length b) x ≡ b)
-spell_end b x i s h =
-    let first : i ≡ 0 = omega arith in
-    let whole : length b - i ≡ length b = omega arith in
-    (s.is ∙ ap (λ (m : ℕ). number_from (drop m b)) first, rw whole at s.less, ap (λ (m : ℕ). bytes_for m x) (sym whole) ∙ s.back ∙ ap (λ (m : ℕ). drop m b) first)
+pub spell_end : (b : List ℕ) (x n : ℕ) → Spelling b x n → n ≡ length b → (x ≡ number_from b) × (x < 256 ^ length b) × (bytes_for (length b) x ≡ b)
+spell_end b x n s h =
+    let first : length b - n ≡ 0 = omega arith in
+    (s.is ∙ ap (λ (m : ℕ). number_from (drop m b)) first, rw h at s.less, ap (λ (m : ℕ). bytes_for m x) (sym h) ∙ s.back ∙ ap (λ (m : ℕ). drop m b) first)
 
--- a number read from a part of so many bytes
-pub part_less : (b : List ℕ) (a k x : ℕ) → a + k ≤ length b → x < 256 ^ length (part a k b) → x < 256 ^ k
-part_less b a k x h l = rw (length_part a k b h) at l
+-- a number of two bytes of b
+pub number_two : (a : ℕ) (b : List ℕ) → a + 2 ≤ length b → number_from (part a 2 b) ≡ get_or b a 0 + get_or b (suc a) 0 * 256
+unfolding number_from
+number_two a b h =
+    ap number_from (part_two a b h) ∙ ap (λ (n : ℕ). get_or b a 0 + n * 256) (add-zero (get_or b (suc a) 0))
 
 -- a number read from so many bytes of b, at most eight
 pub part_known : (a k : ℕ) (b : List ℕ) (r : ℕ) → a + k ≤ length b → k ≤ 8 → (r ≡ pick (leb (length (part a k b)) 8) (number_from (part a k b)) 0) × (each small (part a k b) ≡ true)
@@ -180,15 +177,6 @@ same_number k n p back less = go (eqb (number_from p) n) refl
         other : (c : Bool) → same p (bytes_for k n) ≡ c → c ≡ false
         other false f = refl
         other true f = absurd (true_false (sym (eq-eqb (number_from p) n (ap number_from (same_eq p (bytes_for k n) f) ∙ number_bytes k n less)) ∙ e))
-
--- numbers put into the first part of what is lent, and into the part behind it
-pub first_number : (k n : ℕ) (out x : List ℕ) → k ≤ length out → x ≡ bytes_for (length (take k out)) n → x ≡ bytes_for k n
-first_number k n out x h e = e ∙ ap (λ (m : ℕ). bytes_for m n) (length-take-le k out h)
-
-pub second_number : (n m v : ℕ) (a out x y : List ℕ) → length out ≡ n + m → length a ≡ n → x ≡ a → y ≡ bytes_for (length (part n m (x ++ drop n out))) v → y ≡ bytes_for m v
-second_number n m v a out x y l h e f =
-    let long = length-append x (drop n out) in
-    f ∙ ap (λ (k : ℕ). bytes_for k v) (length_part n m (x ++ drop n out) (omega (arith, long, ap length e, h, l, length-drop n out)))
 
 -- a number of two bytes in ten
 pub wide : (n : ℕ) → n < 2 ^ 16 → bytes_for 10 n ≡ bytes_for 2 n ++ replicate 8 0

@@ -1,6 +1,6 @@
--- Parts as elements, and the test of equality by parts: by these laws a field is judged byte by byte.
+-- Parts as elements, the test of equality by parts, and an array of two: by these laws a field is judged byte by byte.
 -- Assumes nothing.
-use mathlib.Core.Path.{◌≡◌, refl, sym, ap, ap₂, ◌∙◌}
+use mathlib.Core.Path.{◌≡◌, refl, ap, ◌∙◌}
 use mathlib.Core.Bool.{Bool, true, false, ◌&&◌}
 use mathlib.Core.List.{List, [], ◌∷◌, ◌++◌}
 use Prim.Native.Nat.{ℕ, zero, suc, ◌+◌, ◌≤◌}
@@ -9,8 +9,6 @@ use lib.Dec.{eqb}
 use lib.ListN.{length, get_or, take}
 use lib.Seq.{drop-cons}
 use Rattle.lists.specs.Lists.{part, same}
-use Rattle.course.specs.declared.Last.{Last}
-use Rattle.fields.specs.Frame.{last_bytes}
 
 -- ---- parts as elements
 -- k elements from index a on
@@ -33,13 +31,9 @@ same_append (x ∷ xs) (y ∷ ys) zs ws e = step (eqb x y) (same_append xs ys zs
     step true h = h
     step false h = refl
 
-pub and_one : (b : Bool) → (b && true) ≡ b
-and_one true = refl
-and_one false = refl
-
--- ---- the last number
-pub last_shown : (b n : List ℕ) (l : Last) → 6 ≤ length b → get_or n 0 0 ∷ get_or n 1 0 ∷ get_or n 2 0 ∷ [] ≡ last_bytes l
-    → (eqb (get_or b 3 0) (get_or n 0 0) && (eqb (get_or b 4 0) (get_or n 1 0) && eqb (get_or b 5 0) (get_or n 2 0))) ≡ same (part 3 3 b) (last_bytes l)
-last_shown b n l h e =
-    ap (λ (x : Bool). eqb (get_or b 3 0) (get_or n 0 0) && (eqb (get_or b 4 0) (get_or n 1 0) && x)) (sym (and_one (eqb (get_or b 5 0) (get_or n 2 0))))
-    ∙ ap₂ same (sym (part_upto b 3 3 h)) e
+-- ---- an array of two
+pub two_of : (m t : List ℕ) → length m ≡ 2 → get_or m 0 0 ∷ get_or m 1 0 ∷ t ≡ m ++ t
+two_of [] t h = absurd (omega arith)
+two_of (a ∷ []) t h = absurd (omega arith)
+two_of (a ∷ b ∷ []) t h = refl
+two_of (a ∷ b ∷ x ∷ s) t h = absurd (omega arith)

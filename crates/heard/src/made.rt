@@ -23,10 +23,8 @@ fn word(kind: u64, seed: u64, u: u16) -> u16 {
 // Words of a kind, each from the next of the generator's numbers.
 pub(crate) fn words(out: &mut [u16], kind: u64, seed: u64) {
     let mut x = seed;
-    let mut i = 0;
-    while i < out.len() {
+    for w in out {
         x = next(x);
-        out[i] = word(kind, seed, (x / 65536 % 65536) as u16);
-        i += 1;
+        *w = word(kind, seed, (x / 65536 % 65536) as u16);
     }
 }

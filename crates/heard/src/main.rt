@@ -2,10 +2,8 @@
 // All other steps are played through the calls from C, by harness/steps.c.
 #![tactic(auto)]
 
-mod out; // out.rt: what a row is written with
 mod steps; // steps.rt: a step is read from the text
 mod made; // made.rt: words from a seed
-mod lent; // lent.rt: which part of a buffer is lent
 mod heading; // heading.rt: the settings of a header
 mod shown; // shown.rt: rows of words and headers
 mod classes; // classes.rt: rows of classes
@@ -17,13 +15,11 @@ fn main(rt: HostRuntime) -> io::Result<()> {
     let mut ns = [0u64; 56];
     let mut hd = [0u64; 52];
     let mut room = [0u16; 2304];
-    let mut more = true;
-    let mut turns = u64::MAX;
-    while turns > 0 && more {
-        let s = steps::read(&mut input, &mut ns)?;
-        more = s.more;
-        shown::show(&rt, s, &ns, &mut hd, &mut room)?;
-        turns -= 1;
+    for _ in 0..u64::MAX {
+        let Some(step) = steps::read(&mut input, &mut ns)? else {
+            break;
+        };
+        shown::show(&rt, step, &ns, &mut hd, &mut room)?;
     }
     Ok(())
 }

@@ -1,5 +1,6 @@
 -- Each field of the statement, cited at an instance that a weaker one would not give, its type written out.
 -- Assumes nothing.
+use Rattle.std.specs.Prelude.{Some, None}
 use Prim.Native.Nat.{ℕ}
 use mathlib.Core.Bool.{true, false}
 use mathlib.Core.List.{List, [], ◌∷◌, ◌++◌}
@@ -15,19 +16,15 @@ use Rattle.line.specs.Settings.{Held, small}
 use Rattle.line.specs.Check.{checked_of}
 use Rattle.packets.specs.declared.list.Listed.{Listed}
 use Rattle.packets.specs.Listing.{listing}
-use Rattle.course.specs.declared.Last.TheVariants.{Unknown, Number}
-use Rattle.course.specs.declared.Place.TheVariants.{Shut, At}
 use Rattle.machine.specs.declared.phase.Mark.TheVariants.{Typed, Nulled}
 use Rattle.machine.specs.declared.phase.Phase.TheVariants.{Fourth, Data}
 use Rattle.reader.specs.declared.state.Reader.{Reader}
-use Rattle.reader.specs.declared.jump.Jump.TheVariants.{Known}
 use Rattle.reader.specs.declared.state.Event.{Event}
 use Rattle.reader.specs.declared.state.Event.TheVariants.{Refused, Begun, Block}
 use Rattle.reader.specs.declared.within.Report.TheVariants.{Paused, Told}
 use Rattle.reader.specs.declared.within.Within.{Within}
 use Rattle.reader.specs.Reading.{Reply, reading}
 use Rattle.reader.specs.Within.{within}
-use Rattle.writer.specs.declared.state.Rest.TheVariants.{Part}
 use Rattle.writer.specs.declared.state.Writer.{Writer}
 use Rattle.writer.specs.declared.state.Answer.{Answer}
 use Rattle.writer.specs.declared.state.Answer.TheVariants.{Refused as NotDone, Done}
@@ -56,6 +53,7 @@ use Rattle.calls.specs.Looking.{header_bytes, looked, checks, listed_bytes, list
 use Rattle.hosted.specs.Courses as courses
 use Rattle.hosted.specs.Hosted.{is_early, read_as, read_within_as}
 use Rattle.hosted.proofs.HostedHolds.{hosted}
+use Rattle.writer.specs.State.{unfinished}
 
 -- ---- states
 abbrev full : Settings
@@ -75,7 +73,7 @@ full_held = record { to = refl; from = refl; five = refl; to_bytes = refl; from_
 
 -- `reader_back`, `reader_given`: a state that 01 calls impossible, with the largest numbers of their widths
 abbrev far : Reader
-far = record { system = 255; mode = 255; last = Number 65535; settings = full; place = At 18446744073709551615; phase = Data Nulled 18446744073709551615 18446744073709551615 }
+far = record { system = 255; mode = 255; last = Some 65535; settings = full; place = Some 18446744073709551615; phase = Data Nulled 18446744073709551615 18446744073709551615 }
 
 far_held : HeldReader far
 far_held =
@@ -86,7 +84,7 @@ far_back = (hosted.reader_back far far_held, hosted.reader_given far far_held)
 
 -- and one with three count bytes
 abbrev third : Reader
-third = record { system = 1; mode = 9; last = Number 625; settings = full; place = Shut; phase = Fourth (Typed 255) 255 0 254 }
+third = record { system = 1; mode = 9; last = Some 625; settings = full; place = None; phase = Fourth (Typed 255) 255 0 254 }
 
 third_held : HeldReader third
 third_held =
@@ -107,7 +105,7 @@ place_64 b e h = (hosted.reader_held b e h).place_held
 -- the same of a writer
 abbrev most : Writer
 most =
-    record { system = 255; mode = 255; last = Unknown; settings = full; place = At 18446744073709551615; rest = Part 255 65535 65535; crc = 4294967295; used = 65535 }
+    record { system = 255; mode = 255; last = None; settings = full; place = Some 18446744073709551615; rest = unfinished 255 65535 65535; crc = 4294967295; used = 65535 }
 
 most_held : HeldWriter most
 most_held =
@@ -176,10 +174,10 @@ module _ (st : Reader) (h : HeldReader st) (line room event : List ℕ) (long : 
   read_block is = told (Block 7 258) is
 
   -- line 513, behind by 262
-  pub read_begun : (reading st line room).told.event ≡ Begun 513 (Known (negsuc 261)) false
+  pub read_begun : (reading st line room).told.event ≡ Begun 513 (Some (negsuc 261)) false
       → (reads (image_of_reader st) (bytes_of line) (bytes_of room) event).event ≡ 1 ∷ 0 ∷ 1 ∷ 1 ∷ 1 ∷ 2 ∷ 0 ∷ 0 ∷ 6 ∷ 1 ∷ replicate 22 0
   unfolding pick bytes_for
-  read_begun is = ap (λ (y : Read). y.event) (told (Begun 513 (Known (negsuc 261)) false) is)
+  read_begun is = ap (λ (y : Read). y.event) (told (Begun 513 (Some (negsuc 261)) false) is)
 
   -- `reads_within_are`: a pause after 300 words
   pub read_paused : (a : ℕ) → (within a st line room).answer ≡ record { report = Paused; consumed = 300; state = st }

@@ -1,5 +1,6 @@
 -- A reader's state that is possible and of bytes is held, and so is what a reading call leaves of it, with an allowance or without, whatever is lent.
 -- Assumes nothing.
+use Rattle.std.specs.Prelude.{Option, Some, None}
 use Prim.Native.Nat.{ℕ, ◌+◌, ◌/◌}
 use mathlib.Core.Bool.{true, false}
 use mathlib.Core.List.{List}
@@ -10,8 +11,6 @@ use Rattle.lists.proofs.Tests.{pick_elim}
 use Rattle.line.specs.Settings.{small}
 use Rattle.line.specs.Fixed.{is_variable}
 use Rattle.line.specs.Check.{checked_of}
-use Rattle.course.specs.declared.Place.{Place}
-use Rattle.course.specs.declared.Place.TheVariants.{Shut, At}
 use Rattle.machine.specs.declared.phase.Phase.{Phase}
 use Rattle.machine.specs.declared.step.Met.{Met}
 use Rattle.machine.specs.declared.step.Met.TheVariants.{Nothing, Whole, Lost}
@@ -99,13 +98,13 @@ module _ (st : Reader) (b : OfBytes st) where
       (λ h. told_bytes (q + x.answer.taken) x.answer.phase x.answer.met e)
 
   -- ---- by the place
-  read_from_lem : (p : Place) (line room : List ℕ) → OfBytes (read_from p st line room).told.state
-  read_from_lem Shut line room = start_bytes_lem st line b
-  read_from_lem (At q) line room = let x = walk_from st q line room in told_bytes (q + x.answer.taken) x.answer.phase x.answer.met (from_bytes q line room)
+  read_from_lem : (p : Option ℕ) (line room : List ℕ) → OfBytes (read_from p st line room).told.state
+  read_from_lem None line room = start_bytes_lem st line b
+  read_from_lem (Some q) line room = let x = walk_from st q line room in told_bytes (q + x.answer.taken) x.answer.phase x.answer.met (from_bytes q line room)
 
-  under_from : (p : Place) (a : ℕ) (line room : List ℕ) → OfBytes (within_from p a st line room).answer.state
-  under_from Shut a line room = start_bytes_lem st line b
-  under_from (At q) a line room = goes_bytes a q (walk_within a st q line room) (under_bytes a q line room)
+  under_from : (p : Option ℕ) (a : ℕ) (line room : List ℕ) → OfBytes (within_from p a st line room).answer.state
+  under_from None a line room = start_bytes_lem st line b
+  under_from (Some q) a line room = goes_bytes a q (walk_within a st q line room) (under_bytes a q line room)
 
   -- ---- the calls
   read_bytes_lem : (line room : List ℕ) → OfBytes (reading st line room).told.state

@@ -1,6 +1,7 @@
 -- A number of more than 16 bits counts as 65,535: every rule that would refuse the number refuses that too, and before any rule in which they differ. So opening and adding are those of
 -- the number itself.
 -- Assumes nothing.
+use Rattle.std.specs.Prelude.{Option}
 use Prim.Native.Nat.{ℕ, min, ◌≤◌, ◌<◌}
 use mathlib.Core.Bool.{Bool, true, false, ◌&&◌, not}
 use mathlib.Core.List.{List}
@@ -15,7 +16,6 @@ use Rattle.lists.proofs.Tests.{or_left, or_right, and_none, lt_or_le, pick_true}
 use Rattle.line.specs.declared.settings.Settings.{Settings}
 use Rattle.line.specs.Systems.{system_of}
 use Rattle.line.specs.Check.{fits_length}
-use Rattle.course.specs.declared.Place.{Place}
 use Rattle.writer.specs.declared.state.Writer.{Writer}
 use Rattle.writer.specs.declared.state.Answer.TheVariants.{Refused}
 use Rattle.writer.specs.declared.state.Laid.TheVariants.{Refused as NotLaid}
@@ -71,7 +71,7 @@ abbrev up_to_eighteen : Writer → ℕ → List ℕ → ℕ
 up_to_eighteen w long vs = pick (not (fits_length w.system w.mode long)) 1 (pick (impossible w) 2 (pick (not (valued w.mode vs)) 17 18))
 
 module _ (w : Writer) (line vs : List ℕ) where
-  above_a_byte : (place : Place) (block kind n : ℕ) → 65535 ≤ kind → ill_shaped place block kind n ≡ true
+  above_a_byte : (place : Option ℕ) (block kind n : ℕ) → 65535 ≤ kind → ill_shaped place block kind n ≡ true
   unfolding ill_shaped
   above_a_byte place block kind n h = or_right (ltb most n) _ (or_left (ltb 255 kind) _ (lt-ltb 255 kind (omega arith)))
 

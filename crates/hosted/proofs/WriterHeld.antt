@@ -1,5 +1,6 @@
 -- A writer's state that is possible and of bytes is held, and so is what a call leaves of it, whatever is lent.
 -- Assumes nothing.
+use Rattle.std.specs.Prelude.{Option, Some, None}
 use Prim.Native.Nat.{ℕ, ◌+◌, ◌^◌}
 use mathlib.Core.Bool.{Bool, true, false}
 use mathlib.Core.List.{List}
@@ -13,8 +14,6 @@ use Rattle.line.specs.declared.settings.Settings.{Settings}
 use Rattle.line.specs.Settings.{small}
 use Rattle.line.proofs.SystemLaws.{length_most}
 use Rattle.course.specs.Course.{impossible_after}
-use Rattle.writer.specs.declared.state.Rest.{Rest}
-use Rattle.writer.specs.declared.state.Rest.TheVariants.{NoBlock, Part}
 use Rattle.writer.specs.declared.state.Writer.{Writer}
 use Rattle.writer.specs.State.{most, is_part, fresh, misshapen, overlong, overfull, impossible}
 use Rattle.writer.specs.Answers.{Left, Added}
@@ -28,11 +27,12 @@ use Rattle.fields.specs.Widths.{four, two}
 use Rattle.writerimages.specs.Held.{HeldWriter, held_rest}
 use Rattle.hosted.proofs.CourseHeld.{last_by, place_by_lem}
 use Rattle.hosted.proofs.SettingsHeld.{Octets, zero_octets}
+use Rattle.writer.specs.declared.state.Part.{Part}
 
 -- an unfinished block's type is a byte
-abbrev byte_rest : Rest → Bool
-byte_rest NoBlock = true
-byte_rest (Part k n j) = small k
+abbrev byte_rest : Option Part → Bool
+byte_rest None = true
+byte_rest (Some p) = small p.kind
 
 pub record OfBytes (w : Writer) : Type 0 where
   pub system_byte : small w.system ≡ true
@@ -41,13 +41,13 @@ pub record OfBytes (w : Writer) : Type 0 where
   pub rest : byte_rest w.rest ≡ true
 
 -- ---- what the rule of the impossible bounds
-rest_by_lem : (r : Rest) → byte_rest r ≡ true → misshapen r ≡ false → held_rest r ≡ true
-rest_by_lem NoBlock e h = refl
-rest_by_lem (Part k n j) e h =
-    let x = or_false (ltb most n) _ h in
-    let few = ltb-false most n x.0 in
-    let laid = ltb-false (n + 6) j (or_false (ltb j 1) (ltb (n + 6) j) x.1).1 in
-    and_true e (and_true (lt-ltb n (2 ^ 16) (omega (arith, few))) (lt-ltb j (2 ^ 16) (omega (arith, few, laid))))
+rest_by_lem : (r : Option Part) → byte_rest r ≡ true → misshapen r ≡ false → held_rest r ≡ true
+rest_by_lem None e h = refl
+rest_by_lem (Some p) e h =
+    let x = or_false (ltb most p.count) _ h in
+    let few = ltb-false most p.count x.0 in
+    let laid = ltb-false (p.count + 6) p.laid (or_false (ltb p.laid 1) (ltb (p.count + 6) p.laid) x.1).1 in
+    and_true e (and_true (lt-ltb p.count (2 ^ 16) (omega (arith, few))) (lt-ltb p.laid (2 ^ 16) (omega (arith, few, laid))))
 
 crc_by : (c : ℕ) → overlong c ≡ false → four c ≡ true
 crc_by c e = let h = leb-false (2 ^ 18) c e in lt-ltb c (2 ^ 32) (omega (arith, h))
@@ -92,7 +92,7 @@ module _ (w : Writer) (b : OfBytes w) where
         system_byte = b.system_byte;
         mode_byte = b.mode_byte;
         settings = b.settings;
-        rest = pick_elim (λ (r : Rest). byte_rest r ≡ true) _ (λ e. refl) (λ e. lt-ltb kind 256 byte);
+        rest = pick_elim (λ (r : Option Part). byte_rest r ≡ true) _ (λ e. refl) (λ e. lt-ltb kind 256 byte);
       })
       (λ h. b)
 

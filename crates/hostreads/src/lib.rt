@@ -4,4 +4,3 @@
 pub mod making; // making.rt: a reader made
 pub mod reading; // reading.rt: a line read, with an allowance or none
 pub mod looking; // looking.rt: a line checked, and the packets of its gap listed
-mod arrays; // arrays.rt: lent bytes copied to arrays

@@ -11,15 +11,22 @@ use linecheck::check;
 use packets::list;
 use packets::list::Listed;
 
+// The words that the bytes spell, in the front of the room for them.
+fn words_in<'a>(line: &[u8], room: &'a mut [u16; 2304]) -> &'a [u16]
+    requires { length (words_of line.now) ≤ 2304 }
+    ensures { result.now ≡ words_of line.now }
+{
+    octets::words_of(line, room);
+    &room[..line.len() / 2]
+}
+
 // The line check on the words that the bytes spell.
 fn check_bytes(system: u8, mode: u8, line: &[u8]) -> Checked
     requires { length (words_of line.now) ≤ 2304 }
     ensures { result ≡ checked_of system mode (words_of line.now) }
 {
-    let mut words = [0u16; 2304];
-    octets::words_of(line, &mut words);
-    let n = line.len() / 2;
-    check::check(system, mode, &words[..n])
+    let mut room = [0u16; 2304];
+    check::check(system, mode, words_in(line, &mut room))
 }
 
 // The list of the packets in the gap of the line that the bytes spell.
@@ -27,10 +34,8 @@ fn list_bytes(system: u8, mode: u8, line: &[u8], out: &mut [u16]) -> Listed
     requires { length (words_of line.now) ≤ 2304 }
     ensures { outcome result out.new ≡ listing system mode (words_of line.now) out.old }
 {
-    let mut words = [0u16; 2304];
-    octets::words_of(line, &mut words);
-    let n = line.len() / 2;
-    list::list(system, mode, &words[..n], out)
+    let mut room = [0u16; 2304];
+    list::list(system, mode, words_in(line, &mut room), out)
 }
 
 pub fn check_line(system: u8, mode: u8, line: &[u8], header: &mut [u8]) -> u32
@@ -46,8 +51,7 @@ pub fn check_line(system: u8, mode: u8, line: &[u8], header: &mut [u8]) -> u32
     if c.fault == 1 {
         return 1;
     }
-    let t = c.settings;
-    numbers::put_header(c.number, t, header);
+    numbers::put_header(c.number, c.settings, header);
     c.fault as u32
 }
 

@@ -9,7 +9,6 @@ ghost use Rattle.bytereader.specs.Calls.{start_bytes};
 ghost use Rattle.calls.specs.Answers.{event_answer, report_answer};
 ghost use Rattle.calls.specs.Reading.{gave, reads, reads_within};
 
-use crate::arrays;
 use bytereader::Outcome;
 use bytereader::goes::Went;
 use calls::{answers, early};
@@ -26,11 +25,9 @@ fn begin(st: Reader, line: &[u8], state: &mut [u8], event: &mut [u8]) -> u32
         × (event.new ≡ event_image (Told (start_bytes st line.now).event) 0) }
 {
     let t = bytereader::start(st, line);
-    let e = t.event;
-    let next = t.state;
-    reader_image::put_image(next, state);
-    event_image::put_event(Report::Told(e), 0, event);
-    answers::event_answer(e)
+    reader_image::put_image(t.state, state);
+    event_image::put_event(Report::Told(t.event), 0, event);
+    answers::event_answer(t.event)
 }
 
 // A begun line gone on with.
@@ -39,12 +36,9 @@ fn go_on(w: Went, state: &mut [u8], event: &mut [u8]) -> u32
     ensures { (result ≡ report_answer w.report) × (state.new ≡ moved w.place w.phase state.old)
         × (event.new ≡ event_image w.report w.consumed) }
 {
-    let report = w.report;
-    let place = w.place;
-    let phase = w.phase;
-    reader_image::put_moved(place, phase, state);
-    event_image::put_event(report, w.consumed, event);
-    answers::report_answer(report)
+    reader_image::put_moved(w.place, w.phase, state);
+    event_image::put_event(w.report, w.consumed, event);
+    answers::report_answer(w.report)
 }
 
 // A reading call under an allowance.
@@ -55,14 +49,12 @@ fn serve(state: &mut [u8], allowance: usize, line: &[u8], room: &mut [u8], event
     if (state.len() != 80) | (event.len() != 32) {
         return 1;
     }
-    let image = arrays::image_in(state);
-    let spelt = reader_image::read_image(&image);
+    let spelt = reader_image::read_image(&numbers::array_of(state));
     let st = spelt.state;
     if !spelt.image {
         return early::early_by(false, early::read_early(st, line.len(), room.len()));
     }
-    let outcome = bytereader::call(st, allowance, line, room);
-    match outcome {
+    match bytereader::call(st, allowance, line, room) {
         Outcome::Barred(n) => n as u32,
         Outcome::Starts => begin(st, line, state, event),
         Outcome::Goes(w) => go_on(w, state, event),

@@ -3,4 +3,3 @@
 
 pub mod making; // making.rt: a writer made
 pub mod writing; // writing.rt: a line opened, blocks and packets added, the line closed
-mod arrays; // arrays.rt: lent bytes copied to arrays

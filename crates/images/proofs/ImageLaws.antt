@@ -1,5 +1,6 @@
 -- The reader's image: every state of the type comes back from it, an image gives itself again, and any 80 bytes spell a state of the type.
 -- Assumes nothing.
+use Rattle.std.specs.Prelude.{Option}
 use mathlib.Core.Path.{◌≡◌, refl, sym, ap, ap₂, ◌∙◌}
 use mathlib.Core.Bool.{true}
 use mathlib.Core.List.{List, [], ◌∷◌, ◌++◌}
@@ -16,7 +17,6 @@ use Rattle.machine.specs.declared.phase.Mark.{Mark}
 use Rattle.machine.specs.declared.phase.Mark.TheVariants.{Typed, Nulled}
 use Rattle.machine.specs.declared.phase.Phase.{Phase}
 use Rattle.machine.specs.declared.phase.Phase.TheVariants.{Idle, Kind, First, Second, Third, Fourth, Data}
-use Rattle.course.specs.declared.Place.{Place}
 use Rattle.reader.specs.declared.state.Reader.{Reader}
 use Rattle.reader.specs.Reading.{becomes}
 use Rattle.fields.specs.Fields.{bytes_for, number_from, settings_bytes}
@@ -141,7 +141,7 @@ image_length_lem st h =
 
 -- ---- another place and another phase
 -- I5: an image in which only these are others is the image of the state with these
-pub moved_image : (b : List ℕ) → is_image b ≡ true → (p : Place) (h : Phase)
+pub moved_image : (b : List ℕ) → is_image b ≡ true → (p : Option ℕ) (h : Phase)
     → let st = state_of b in
     moved p h b ≡ image_of (becomes st st.last st.settings p h)
 unfolding moved image_of

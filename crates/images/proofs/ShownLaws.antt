@@ -1,5 +1,6 @@
 -- An image is judged by its fields: bytes are what a state gives where each field is what that state's field gives. Of settings nothing is asked, because any 41 bytes are settings.
 -- Assumes nothing.
+use Rattle.std.specs.Prelude.{Option}
 use mathlib.Core.Path.{◌≡◌, refl, sym, ap, ap₂, ◌∙◌}
 use mathlib.Core.Bool.{Bool, true, false, ◌&&◌}
 use mathlib.Core.List.{List, [], ◌∷◌, ◌++◌}
@@ -11,8 +12,6 @@ use lib.Seq.{take_all}
 use borrow.Author.Tests.{eq-eqb}
 use Rattle.lists.specs.Lists.{part, same}
 use Rattle.lists.proofs.Lists.{part_add, length_part, eq_same}
-use Rattle.course.specs.declared.Last.{Last}
-use Rattle.course.specs.declared.Place.{Place}
 use Rattle.course.specs.Course.{place_of}
 use Rattle.fields.specs.Fields.{bytes_for, number_from, settings_bytes, settings_from}
 use Rattle.fields.specs.Frame.{last_bytes, place_byte, framed, held_in, shows_frame}
@@ -77,7 +76,7 @@ shuffle true true true true true true false f = refl
 shuffle true true true true true true true false = refl
 shuffle true true true true true true true true = refl
 
-pub frame_shown : (tag : ℕ) (l : Last) (p : Place) (kind : ℕ) (held b : List ℕ) → length b ≡ 80 → length held ≡ 21
+pub frame_shown : (tag : ℕ) (l : Option ℕ) (p : Option ℕ) (kind : ℕ) (held b : List ℕ) → length b ≡ 80 → length held ≡ 21
     → (shows_frame tag l p b && (eqb (get_or b 7 0) kind && same (held_in b) held)) ≡ same b (framed tag (get_or b 1 0) (get_or b 2 0) l p kind held (settings_from (part 37 41 b)))
 unfolding shows_frame framed held_in
 frame_shown tag l p kind held b long h =

@@ -1,9 +1,8 @@
 -- The reader's state as 80 bytes, and back. In 7 stands the phase: 0 idle; 1 type awaited; 2 to 5 the first to the fourth count byte awaited; 6 data.
 -- Of the block are held: 16 the mark, 0 none, 1 a type, 2 a null; 17 the type; 18-20 the count bytes so far; 21-28 the count announced; 29-36 the number collected.
 -- Assumes nothing.
-use Rattle.std.specs.Prelude.{ℕ, zero, suc, Bool, List, [], ◌∷◌, ◌++◌, get_or, take, drop}
+use Rattle.std.specs.Prelude.{ℕ, zero, suc, Bool, List, [], ◌∷◌, ◌++◌, get_or, take, drop, Option}
 use Rattle.lists.specs.Lists.{part, same}
-use Rattle.course.specs.declared.Place.{Place}
 use Rattle.course.specs.Course.{place_of}
 use Rattle.machine.specs.declared.phase.Mark.{Mark}
 use Rattle.machine.specs.declared.phase.Mark.TheVariants.{Typed, Nulled}
@@ -82,8 +81,8 @@ unfoldable pub is_image : List ℕ → Bool
 is_image b = same b (image_of (state_of b))
 
 -- ---- an image in which only the place and the phase are others: bytes 6 to 36
-abbrev pub stand_bytes : Place → Phase → List ℕ
+abbrev pub stand_bytes : Option ℕ → Phase → List ℕ
 stand_bytes place phase = place_byte place ∷ phase_byte phase ∷ bytes_for 8 (place_of place) ++ phase_bytes phase
 
-unfoldable pub moved : Place → Phase → List ℕ → List ℕ
+unfoldable pub moved : Option ℕ → Phase → List ℕ → List ℕ
 moved place phase b = take 6 b ++ (stand_bytes place phase ++ drop 37 b)

@@ -6,7 +6,6 @@ ghost use Rattle.fields.specs.Frame.{held_in};
 ghost use Rattle.images.specs.ReaderImage.{mark_bytes, mark_by, phase_byte, count_bytes, phase_bytes, phase_by, phase_in, image_of, state_of, is_image, stand_bytes, moved};
 ghost use Rattle.images.specs.Held.{HeldReader};
 
-use course::Place;
 use fields::{frame, numbers};
 use line::settings;
 use machine::phase::{Mark, Phase};
@@ -31,8 +30,8 @@ fn mark_bytes(mark: Mark) -> [u8; 2]
     ensures { (result ≡ mark_bytes mark) × (length result ≡ 2) }
 {
     match mark {
-        Mark::Typed(k) => [1u8, k],
-        Mark::Nulled => [2u8, 0],
+        Mark::Typed(k) => [1, k],
+        Mark::Nulled => [2, 0],
     }
 }
 
@@ -50,99 +49,104 @@ fn phase_byte(phase: Phase) -> u8
     match phase {
         Phase::Idle => 0,
         Phase::Kind => 1,
-        Phase::First { mark: _ } => 2,
-        Phase::Second { mark: _, b0: _ } => 3,
-        Phase::Third {
-            mark: _,
-            b0: _,
-            b1: _,
-        } => 4,
-        Phase::Fourth {
-            mark: _,
-            b0: _,
-            b1: _,
-            b2: _,
-        } => 5,
-        Phase::Data {
-            mark: _,
-            announced: _,
-            collected: _,
-        } => 6,
+        Phase::First { .. } => 2,
+        Phase::Second { .. } => 3,
+        Phase::Third { .. } => 4,
+        Phase::Fourth { .. } => 5,
+        Phase::Data { .. } => 6,
     }
 }
 
-// The parts of what is held as one value, so that a phase's match gives numbers and the bytes are laid in one place.
-fn counted(mark: [u8; 2], b0: u8, b1: u8, b2: u8, announced: usize, collected: usize) -> Counts
-    requires { length mark ≡ 2 }
-    ensures { (result.mark ++ count_bytes result.b0 result.b1 result.b2 result.announced result.collected ≡ mark ++ count_bytes b0 b1 b2 announced collected) × (length result.mark ≡ 2) }
-{
-    Counts {
-        mark: mark,
-        b0: b0,
-        b1: b1,
-        b2: b2,
-        announced: announced,
-        collected: collected,
-    }
-}
-
-// What the phase holds; 0 where it holds nothing.
+// What the phase holds; 0 where it holds nothing. It is one value, so that the bytes are laid in one place.
 fn counted_of(phase: Phase) -> Counts
     ensures { (result.mark ++ count_bytes result.b0 result.b1 result.b2 result.announced result.collected ≡ phase_bytes phase) × (length result.mark ≡ 2) }
 {
+    let none = Counts {
+        mark: [0, 0],
+        b0: 0,
+        b1: 0,
+        b2: 0,
+        announced: 0,
+        collected: 0,
+    };
     match phase {
-        Phase::Idle => counted([0u8, 0], 0, 0, 0, 0, 0),
-        Phase::Kind => counted([0u8, 0], 0, 0, 0, 0, 0),
-        Phase::First { mark } => counted(mark_bytes(mark), 0, 0, 0, 0, 0),
-        Phase::Second { mark, b0 } => counted(mark_bytes(mark), b0, 0, 0, 0, 0),
-        Phase::Third { mark, b0, b1 } => counted(mark_bytes(mark), b0, b1, 0, 0, 0),
-        Phase::Fourth { mark, b0, b1, b2 } => counted(mark_bytes(mark), b0, b1, b2, 0, 0),
+        Phase::Idle | Phase::Kind => none,
+        Phase::First { mark } => Counts {
+            mark: mark_bytes(mark),
+            ..none
+        },
+        Phase::Second { mark, b0 } => Counts {
+            mark: mark_bytes(mark),
+            b0,
+            ..none
+        },
+        Phase::Third { mark, b0, b1 } => Counts {
+            mark: mark_bytes(mark),
+            b0,
+            b1,
+            ..none
+        },
+        Phase::Fourth { mark, b0, b1, b2 } => Counts {
+            mark: mark_bytes(mark),
+            b0,
+            b1,
+            b2,
+            ..none
+        },
         Phase::Data {
             mark,
             announced,
             collected,
-        } => counted(mark_bytes(mark), 0, 0, 0, announced, collected),
+        } => Counts {
+            mark: mark_bytes(mark),
+            announced,
+            collected,
+            ..none
+        },
     }
 }
 
 // The 21 bytes of what the phase holds.
+#[tactic(auto, using(fields::proofs::PartLaws::two_of), unfolding(lists::specs::Tests::pick))]
 fn put_phase(phase: Phase, out: &mut [u8])
     requires { length out.old ≡ 21 }
     ensures { out.new ≡ phase_bytes phase }
 {
     let x = counted_of(phase);
-    let mark = x.mark;
-    lists::copy_bytes(&[mark[0], mark[1], x.b0, x.b1, x.b2], &mut out[..5]);
-    numbers::put_eights(x.announced, x.collected, &mut out[5..21]);
+    let (front, counts) = out.split_at_mut(5);
+    front.copy_from_slice(&[x.mark[0], x.mark[1], x.b0, x.b1, x.b2]);
+    numbers::put_eights(x.announced, x.collected, counts);
 }
 
 // What a call on a begun line changes: the place and the phase.
-fn put_stand(place: Place, phase: Phase, out: &mut [u8])
+#[tactic(auto, unfolding(lists::specs::Tests::pick))]
+fn put_stand(place: Option<usize>, phase: Phase, out: &mut [u8])
     requires { length out.old ≡ 31 }
     ensures { out.new ≡ stand_bytes place phase }
 {
-    frame::put_place(place, phase_byte(phase), &mut out[..10]);
-    put_phase(phase, &mut out[10..31]);
+    let (front, held) = out.split_at_mut(10);
+    frame::put_place(place, phase_byte(phase), front);
+    put_phase(phase, held);
 }
 
 // The image of a state, into 80 bytes, and else nothing.
+#[tactic(auto, unfolding(lists::specs::Tests::pick, crate::specs::ReaderImage::image_of, fields::specs::Frame::framed))]
 pub fn put_image(st: Reader, out: &mut [u8])
     ensures { out.new ≡ pick (eqb (length out.old) 80) (image_of st) out.old }
 {
     if out.len() != 80 {
         return;
     }
-    let last = st.last;
-    let place = st.place;
-    let phase = st.phase;
-    let settings = st.settings;
-    frame::put_front(TAG, st.system, st.mode, last, &mut out[..6]);
-    put_stand(place, phase, &mut out[6..37]);
-    frame::put_foot(settings, &mut out[37..80]);
+    let (front, rest) = out.split_at_mut(6);
+    let (stand, foot) = rest.split_at_mut(31);
+    frame::put_front(TAG, st.system, st.mode, st.last, front);
+    put_stand(st.place, st.phase, stand);
+    frame::put_foot(st.settings, foot);
 }
 
 // Another place and another phase, into an image of 80 bytes, and else nothing.
-pub fn put_moved(place: Place, phase: Phase, out: &mut [u8])
+#[tactic(auto, unfolding(lists::specs::Tests::pick, crate::specs::ReaderImage::moved))]
+pub fn put_moved(place: Option<usize>, phase: Phase, out: &mut [u8])
     ensures { out.new ≡ pick (eqb (length out.old) 80) (moved place phase out.old) out.old }
 {
     if out.len() != 80 {
@@ -152,56 +156,44 @@ pub fn put_moved(place: Place, phase: Phase, out: &mut [u8])
 }
 
 // The phase by its number, its mark and the bytes held.
+#[tactic(auto, unfolding(lists::specs::Tests::pick))]
 fn phase_by(n: u8, mark: Mark, h: &[u8; 21]) -> Phase
     ensures { result ≡ phase_by n mark h.now }
 {
-    if n == 1 {
-        return Phase::Kind;
-    }
-    if n == 2 {
-        return Phase::First { mark };
-    }
-    if n == 3 {
-        return Phase::Second { mark, b0: h[2] };
-    }
-    if n == 4 {
-        return Phase::Third {
+    match n {
+        1 => Phase::Kind,
+        2 => Phase::First { mark },
+        3 => Phase::Second { mark, b0: h[2] },
+        4 => Phase::Third {
             mark,
             b0: h[2],
             b1: h[3],
-        };
-    }
-    if n == 5 {
-        return Phase::Fourth {
+        },
+        5 => Phase::Fourth {
             mark,
             b0: h[2],
             b1: h[3],
             b2: h[4],
-        };
-    }
-    if n == 6 {
-        let all = &h[..];
-        let announced = numbers::number_in(&all[5..13]);
-        let collected = numbers::number_in(&all[13..21]);
-        return Phase::Data {
+        },
+        6 => Phase::Data {
             mark,
-            announced,
-            collected,
-        };
+            announced: numbers::number_in(&h[5..13]),
+            collected: numbers::number_in(&h[13..21]),
+        },
+        _ => Phase::Idle,
     }
-    Phase::Idle
 }
 
 // The phase in an image.
+#[tactic(auto, unfolding(crate::specs::ReaderImage::phase_in))]
 fn phase_in(b: &[u8; 80]) -> Phase
     ensures { result ≡ phase_in b.now }
 {
     let held = frame::held_in(b);
-    let mark = mark_by(held[0], held[1]);
-    phase_by(b[7], mark, &held)
+    phase_by(b[7], mark_by(held[0], held[1]), &held)
 }
 
-// What 80 bytes spell: a state, and whether the bytes are its image.
+// What 80 bytes spell: a state, and whether the bytes are its image. Not an `Option`: the state is promised of any bytes.
 #[derive(Clone, Copy)]
 pub struct Spelt {
     pub state: Reader,
@@ -213,43 +205,36 @@ fn shows_phase(phase: Phase, b: &[u8; 80]) -> bool
     ensures { result ≡ (eqb (get_or b.now 7 0) (phase_byte phase) && same (held_in b.now) (phase_bytes phase)) }
 {
     let x = counted_of(phase);
-    let mark = x.mark;
-    let all = &b[..];
-    let announced = numbers::number_in(&all[21..29]) == x.announced;
-    let collected = numbers::number_in(&all[29..37]) == x.collected;
+    let announced = numbers::number_in(&b[21..29]) == x.announced;
+    let collected = numbers::number_in(&b[29..37]) == x.collected;
     let counts = (b[18] == x.b0) & ((b[19] == x.b1) & ((b[20] == x.b2) & (announced & collected)));
-    (b[7] == phase_byte(phase)) & ((b[16] == mark[0]) & ((b[17] == mark[1]) & counts))
+    (b[7] == phase_byte(phase)) & ((b[16] == x.mark[0]) & ((b[17] == x.mark[1]) & counts))
 }
 
 // The state that bytes spell, whatever they are; and an image is what a state gives: the state that it spells gives it again.
 pub fn read_image(b: &[u8; 80]) -> Spelt
     ensures { (result.state ≡ state_of b.now) × (result.image ≡ is_image b.now) }
 {
-    let all = &b[..];
     let last = frame::last_in(b);
     let settings = frame::settings_in(b);
     let place = frame::place_in(b);
     let phase = phase_in(b);
     let image = frame::shows_frame(TAG, last, place, b) & shows_phase(phase, b);
-    let st = Reader {
-        system: all[1],
-        mode: all[2],
-        last: last,
-        settings: settings,
-        place: place,
-        phase: phase,
+    let state = Reader {
+        system: b[1],
+        mode: b[2],
+        last,
+        settings,
+        place,
+        phase,
     };
-    Spelt {
-        state: st,
-        image: image,
-    }
+    Spelt { state, image }
 }
 
 // The same state. What it ensures is what every value of the type holds.
 pub fn held_reader(st: Reader) -> Reader
     ensures { (result ≡ st) × HeldReader result }
 {
-    let s = st.settings;
-    let t = settings::held(s);
+    settings::held(st.settings);
     st
 }

@@ -7,7 +7,7 @@ use Prim.Native.Nat.{ℕ, ◌+◌, ◌-◌, ◌*◌, ◌/◌, ◌%◌, ◌^◌, 
 use native.Mathlib.Nat.{mod-lt}
 use native.Mathlib.Omega.{arith}
 use lib.Dec.{eqb, lit<}
-use lib.ListN.{length, get_or, drop, drop_of_length-le}
+use lib.ListN.{length, get_or, take, drop, drop_of_length-le}
 use lib.Bits.{bit_xor, bit_or, xor_zero_l, xor_self, or_add_and, and_le_l, and_le_r}
 use borrow.Author.Tests.{eqb-true, eqb-false, eq-eqb, ne_eqb}
 use Rattle.lists.specs.Lists.{part, each}
@@ -116,12 +116,12 @@ pairs_end s t off i long p h =
     ∙ p.is
 
 -- ---- a list by its halves
-pub halves : (s : List ℕ) (half : ℕ) (b : Bool) → half * 2 ≤ length s → b ≡ (each is_byte (part 0 (half - 0) s) && each is_byte (part half (half * 2 - half) s))
+pub halves : (s : List ℕ) (half : ℕ) (b : Bool) → half * 2 ≤ length s → b ≡ (each is_byte (take half s) && each is_byte (part half (half * 2 - half) s))
     → Testing is_byte s b (half * 2)
 halves s half b h e =
     let one = test_chunk is_byte s true (each is_byte (part 0 (0 + half - 0) s)) 0 half (test_start is_byte s) (omega arith) refl in
     let two = test_chunk is_byte s (each is_byte (part 0 (0 + half - 0) s)) (each is_byte (part (0 + half) (0 + half + half - (0 + half)) s)) (0 + half) half one (omega arith) refl in
-    let first : 0 + half - 0 ≡ half - 0 = omega arith in
+    let first : 0 + half - 0 ≡ half = omega arith in
     let start : 0 + half ≡ half = omega arith in
     let second : 0 + half + half - (0 + half) ≡ half * 2 - half = omega arith in
     let end : 0 + half + half ≡ half * 2 = omega arith in

@@ -10,3 +10,4 @@ pub mod GapLaws
 pub mod Lines
 pub mod Examples
 pub mod FormPairs
+pub mod Fronts

@@ -1,10 +1,11 @@
 -- What settings without fault have, and what equal settings have; and that the five reserved bytes are no fault of theirs.
 -- Assumes nothing.
-use mathlib.Core.Path.{◌≡◌, refl}
-use mathlib.Core.Bool.{true, false, ◌&&◌}
-use mathlib.Core.List.{List}
+use mathlib.Core.Path.{◌≡◌, refl, ap}
+use mathlib.Core.Bool.{Bool, true, false, ◌&&◌}
+use mathlib.Core.List.{List, [], ◌∷◌}
 use Prim.Native.Nat.{ℕ}
 use lib.Dec.{eqb}
+use lib.Pointwise.{pointwise}
 use borrow.Author.Tests.{eqb-true}
 use Rattle.lists.specs.Lists.{same}
 use Rattle.lists.proofs.Tests.{both_true}
@@ -21,6 +22,13 @@ unfolding settings_fault settings_faults
 block_passes system t e = (lowest_clear (settings_faults (system_of system) t) (settings_rising (system_of system) t) e).1.1.0
 
 -- ---- equal settings
+-- `==` of two arrays asks what `same` asks
+pub pointwise_same : (s t : List ℕ) → pointwise eqb s t ≡ same s t
+pointwise_same [] [] = refl
+pointwise_same [] (y ∷ t) = refl
+pointwise_same (x ∷ s) [] = refl
+pointwise_same (x ∷ s) (y ∷ t) = ap (λ (b : Bool). eqb x y && b) (pointwise_same s t)
+
 behind_source : (t u : Settings) → same_settings t u ≡ true → (eqb t.block u.block && (eqb t.flag u.flag && same t.reserved u.reserved)) ≡ true
 unfolding same_settings
 behind_source t u e =

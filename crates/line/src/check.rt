@@ -14,10 +14,10 @@ pub struct Checked {
 }
 
 // A system and a mode that there are, and a line of the system's length.
+#[tactic(auto, unfolding(crate::specs::Check::fits_length))]
 pub fn is_fit(system: u8, mode: u8, length: usize) -> bool
     ensures { result ≡ fits_length system mode length }
 {
-    let s = systems::system_of(system);
-    let long = length == s.length;
+    let long = length == systems::system_of(system).length;
     systems::is_system(system) & (words::forms::is_mode(mode) & long)
 }

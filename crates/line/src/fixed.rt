@@ -16,10 +16,11 @@ pub struct Fixed {
 fn kind(size: u16, at270: u16, at360: u16) -> u64
     ensures { result ≡ size + at270 * 65536 + at360 * 4294967296 }
 {
-    size as u64 + at270 as u64 * 65536 + at360 as u64 * 4294967296
+    u64::from(size) + u64::from(at270) * 65536 + u64::from(at360) * 4294967296
 }
 
 // The row of the table; 0 where there is none.
+#[tactic(auto, using(crate::proofs::FixedLaws::unlisted), unfolding(crate::specs::Fixed::table, lists::specs::Tests::pick))]
 fn listed(bits: u8) -> u64
     ensures { result ≡ (find bits table).size + (find bits table).at270 * 65536 + (find bits table).at360 * 4294967296 }
 {
@@ -62,21 +63,20 @@ fn listed(bits: u8) -> u64
 }
 
 // What B5-B0 of a block type stand for; all 0 where they are not listed.
+#[tactic(auto, using(crate::proofs::FixedLaws::unpacks), unfolding(crate::specs::Fixed::fixed_of))]
 pub fn fixed_of(block: u8) -> Fixed
     ensures { result ≡ fixed_of block }
 {
     let x = listed(block % 64);
-    let size = (x % 65536) as u16;
-    let at270 = (x / 65536 % 65536) as u16;
-    let at360 = (x / 4294967296 % 65536) as u16;
     Fixed {
-        size: size,
-        at270: at270,
-        at360: at360,
+        size: (x % 65536) as u16,
+        at270: (x / 65536 % 65536) as u16,
+        at360: (x / 4294967296 % 65536) as u16,
     }
 }
 
 // The places of a kind where the payload is P words.
+#[tactic(auto, unfolding(lists::specs::Tests::pick))]
 pub fn places_in(payload: usize, x: Fixed) -> u16
     ensures { result ≡ pick (eqb payload 1440) x.at270 x.at360 }
 {
@@ -102,12 +102,12 @@ pub(crate) fn block_refused(payload: usize, row: Fixed, block: u8, flag: u8) -> 
     if 128 <= block {
         return true;
     }
-    let places = places_in(payload, row) as usize;
+    let places = usize::from(places_in(payload, row));
     if places == 0 {
         return true;
     }
     if flag != 1 {
         return false;
     }
-    places * row.size as usize == payload
+    places * usize::from(row.size) == payload
 }

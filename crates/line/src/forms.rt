@@ -22,10 +22,8 @@ fn both_byte(s: &[u16], t: &[u16]) -> bool
     ensures { result ≡ (each is_byte s.now && each is_byte t.now) }
 {
     let mut off = 0u16;
-    let mut i = 0;
-    while i < s.len() {
-        off = off | off_bytes(s[i], t[i]);
-        i += 1;
+    for (v, w) in s.iter().zip(t) {
+        off |= off_bytes(*v, *w);
     }
     off == 0
 }
@@ -36,7 +34,7 @@ pub fn all_byte(s: &[u16]) -> bool
 {
     let half = s.len() / 2;
     let e = half * 2;
-    let pairs = both_byte(&s[0..half], &s[half..e]);
+    let pairs = both_byte(&s[..half], &s[half..e]);
     if e < s.len() {
         return pairs & words::forms::is_byte(s[e]);
     }
@@ -48,10 +46,8 @@ pub fn all_data(s: &[u16]) -> bool
     ensures { result ≡ each is_data s.now }
 {
     let mut ok = true;
-    let mut i = 0;
-    while i < s.len() {
-        ok = ok & words::forms::is_data(s[i]);
-        i += 1;
+    for w in s {
+        ok &= words::forms::is_data(*w);
     }
     ok
 }

@@ -1,4 +1,4 @@
-// The 53 header words, from a line number and settings. An array goes by value from step to step, so that each step says what it laid.
+// The 53 header words, from a line number and settings. Each step is lent the whole array, so that it says what it laid.
 ghost use Rattle.std.specs.Prelude.{◌≡◌, map, ◌+◌, ◌-◌, ◌≤◌, length};
 ghost use Rattle.lists.specs.Lists.{part};
 ghost use Rattle.words.specs.Forms.{byte_word};
@@ -10,46 +10,31 @@ use crate::settings;
 use crate::settings::Settings;
 
 // The words of src from at on.
-fn lay_words(words: [u16; 53], at: usize, src: &[u16]) -> [u16; 53]
-    requires { (length words ≡ 53) × (at + length src.now ≤ 53) }
-    ensures { Laid at src.now words result }
+fn lay_words(out: &mut [u16; 53], at: usize, src: &[u16])
+    requires { at + length src.now ≤ 53 }
+    ensures { Laid at src.now out.old out.new }
 {
-    let mut out = words;
-    let mut i = 0;
-    while i < src.len() {
-        out[at + i] = src[i];
-        i += 1;
-    }
-    out
+    let e = at + src.len();
+    out[at..e].copy_from_slice(src);
 }
 
 // The bytes of src in byte form from at on.
-fn lay_bytes(words: [u16; 53], at: usize, src: &[u8]) -> [u16; 53]
-    requires { (length words ≡ 53) × (at + length src.now ≤ 53) }
-    ensures { Laid at (map byte_word src.now) words result }
+fn lay_bytes(out: &mut [u16; 53], at: usize, src: &[u8])
+    requires { at + length src.now ≤ 53 }
+    ensures { Laid at (map byte_word src.now) out.old out.new }
 {
-    let mut out = words;
-    let mut i = 0;
-    while i < src.len() {
-        out[at + i] = words::forms::byte_word(wide(src[i]));
-        i += 1;
+    for (i, b) in src.iter().enumerate() {
+        out[at + i] = words::forms::byte_word(u16::from(*b));
     }
-    out
-}
-
-fn wide(b: u8) -> u16
-    ensures { result ≡ b }
-{
-    b as u16
 }
 
 // The CRC of the words from a to before e, in the two words at e.
-fn lay_crc(words: [u16; 53], a: usize, e: usize) -> [u16; 53]
-    requires { (length words ≡ 53) × (a ≤ e) × (e + 2 ≤ 53) }
-    ensures { Laid e (crc_words (part a (e - a) words)) words result }
+fn lay_crc(out: &mut [u16; 53], a: usize, e: usize)
+    requires { (a ≤ e) × (e + 2 ≤ 53) }
+    ensures { Laid e (crc_words (part a (e - a) out.old)) out.old out.new }
 {
-    let c = sums::crc::crc_of(sums::crc::CRC_START, &words[a..e]);
-    lay_words(words, e, &sums::crc::crc_words(c))
+    let c = sums::crc::crc_of(sums::crc::CRC_START, &out[a..e]);
+    lay_words(out, e, &sums::crc::crc_words(c));
 }
 
 // The 53 header words.
@@ -57,22 +42,21 @@ pub fn header_words(number: u16, settings: Settings) -> [u16; 53]
     ensures { result ≡ header_words number settings }
 {
     let s = settings::held(settings);
-    let destination = s.destination;
-    let source = s.source;
-    let reserved = s.reserved;
-    let o1 = lay_words(
-        [0u16; 53],
-        0,
-        &[0x000u16, 0x3ff, 0x3ff, 0x140, 0x101, 0x22e],
+    let mut out = [0u16; 53];
+    lay_words(&mut out, 0, &[0x000u16, 0x3ff, 0x3ff, 0x140, 0x101, 0x22e]);
+    lay_bytes(
+        &mut out,
+        6,
+        &[(number % 256) as u8, (number / 256 % 4) as u8],
     );
-    let o2 = lay_bytes(o1, 6, &[(number % 256) as u8, (number / 256 % 4) as u8]);
-    let o3 = lay_crc(o2, 3, 8);
-    let o4 = lay_bytes(o3, 10, &[s.code % 16 + s.aai % 16 * 16]);
-    let o5 = lay_bytes(o4, 11, &destination);
-    let o6 = lay_bytes(o5, 27, &source);
-    let o7 = lay_bytes(o6, 43, &[s.block, s.flag]);
-    let o8 = lay_bytes(o7, 45, &reserved);
-    let o9 = lay_crc(o8, 10, 50);
-    let sum = sums::checksum::checksum_of(&o9[3..52]);
-    lay_words(o9, 52, &[sum])
+    lay_crc(&mut out, 3, 8);
+    lay_bytes(&mut out, 10, &[s.code % 16 + s.aai % 16 * 16]);
+    lay_bytes(&mut out, 11, &s.destination);
+    lay_bytes(&mut out, 27, &s.source);
+    lay_bytes(&mut out, 43, &[s.block, s.flag]);
+    lay_bytes(&mut out, 45, &s.reserved);
+    lay_crc(&mut out, 10, 50);
+    let sum = sums::checksum::checksum_of(&out[3..52]);
+    lay_words(&mut out, 52, &[sum]);
+    out
 }

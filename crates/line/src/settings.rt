@@ -6,7 +6,7 @@ ghost use Rattle.line.specs.Settings.{no_settings, Held, settings_fault, same_se
 use crate::fixed::Fixed;
 use crate::{fixed, systems};
 
-#[derive(Clone, Copy)]
+#[derive(Clone, Copy, PartialEq, Eq)]
 pub struct Settings {
     pub code: u8,
     pub aai: u8,
@@ -43,17 +43,7 @@ pub fn held(settings: Settings) -> Settings
 pub fn same_settings(a: Settings, b: Settings) -> bool
     ensures { result ≡ same_settings a b }
 {
-    let a_to = a.destination;
-    let b_to = b.destination;
-    let a_from = a.source;
-    let b_from = b.source;
-    let a_five = a.reserved;
-    let b_five = b.reserved;
-    let to = lists::same_bytes(&a_to, &b_to);
-    let from = lists::same_bytes(&a_from, &b_from);
-    let five = lists::same_bytes(&a_five, &b_five);
-    (a.code == b.code)
-        & ((a.aai == b.aai) & (to & (from & ((a.block == b.block) & ((a.flag == b.flag) & five)))))
+    a == b
 }
 
 // The lowest of 10 to 13 that holds of the settings, or 0; by the table's row of the block type. The reserved bytes are not asked.
@@ -87,16 +77,12 @@ pub fn find_fault(system: u8, settings: Settings) -> Found
 {
     let row = fixed::fixed_of(settings.block);
     let fault = fault_by(system, row, settings);
-    Found {
-        fault: fault,
-        row: row,
-    }
+    Found { fault, row }
 }
 
 // The lowest of 10 to 13 that holds of the settings, or 0.
 pub fn settings_fault(system: u8, settings: Settings) -> u8
     ensures { result ≡ settings_fault system settings }
 {
-    let x = find_fault(system, settings);
-    x.fault
+    find_fault(system, settings).fault
 }

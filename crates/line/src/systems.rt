@@ -12,6 +12,7 @@ pub struct System {
 }
 
 // There is a system of that number.
+#[tactic(auto, unfolding(crate::specs::Systems::is_system))]
 pub fn is_system(system: u8) -> bool
     ensures { result ≡ is_system system }
 {
@@ -19,6 +20,7 @@ pub fn is_system(system: u8) -> bool
 }
 
 // The system of a number; all 0 where there is none.
+#[tactic(auto, using(crate::proofs::SystemLaws::no_system))]
 pub fn system_of(system: u8) -> System
     ensures { result ≡ system_of system }
 {

@@ -6,7 +6,7 @@ ghost use Rattle.line.specs.Timing.{bit_of, timing_word, timing_words};
 fn bit_of(b: bool) -> u16
     ensures { (result ≡ bit_of b) × (result < 2) }
 {
-    if b { 1 } else { 0 }
+    u16::from(b)
 }
 
 // The fourth word: of EAV where h, else of SAV.
@@ -23,6 +23,7 @@ pub fn timing_word(f: bool, v: bool, h: bool) -> u16
 }
 
 // The four words: EAV where h, else SAV.
+#[tactic(auto, unfolding(crate::specs::Timing::timing_words))]
 pub fn timing_words(f: bool, v: bool, h: bool) -> [u16; 4]
     ensures { result ≡ timing_words f v h }
 {

@@ -31,11 +31,10 @@ fn fault_of(system: u8, mode: u8, t: Settings, line: &[u16]) -> u8
 fn faulty(fault: u8) -> Checked
     ensures { result ≡ faulty_with fault }
 {
-    let none = settings::no_settings();
     Checked {
-        fault: fault,
+        fault,
         number: 0,
-        settings: none,
+        settings: settings::no_settings(),
     }
 }
 
@@ -46,15 +45,14 @@ pub fn check(system: u8, mode: u8, line: &[u16]) -> Checked
     if !check::is_fit(system, mode, line.len()) {
         return faulty(1);
     }
-    let t = head::settings_of(line);
-    let fault = fault_of(system, mode, t, line);
+    let settings = head::settings_of(line);
+    let fault = fault_of(system, mode, settings, line);
     if fault != 0 {
         return faulty(fault);
     }
-    let number = head::number_of(line);
     Checked {
         fault: 0,
-        number: number,
-        settings: t,
+        number: head::number_of(line),
+        settings,
     }
 }

@@ -10,18 +10,19 @@ use line::systems::System;
 use line::{forms, timing};
 
 // The low bytes of the words.
-fn low_into(out: &mut [u8], src: &[u16])
-    requires { length out.old ≡ length src.now }
-    ensures { out.new ≡ map low src.now }
+fn low_bytes<const N: usize>(src: &[u16]) -> [u8; N]
+    requires { length src.now ≡ N }
+    ensures { result ≡ map low src.now }
 {
-    let mut i = 0;
-    while i < src.len() {
-        out[i] = (src[i] % 256) as u8;
-        i += 1;
+    let mut out = [0; N];
+    for (i, w) in src.iter().enumerate() {
+        out[i] = (*w % 256) as u8;
     }
+    out
 }
 
 // The line number.
+#[tactic(auto, unfolding(line::specs::Check::number_of))]
 pub(crate) fn number_of(line: &[u16]) -> u16
     requires { 57 ≤ length line.now }
     ensures { result ≡ number_of line.now }
@@ -30,25 +31,20 @@ pub(crate) fn number_of(line: &[u16]) -> u16
 }
 
 // The settings, as byte values.
+#[tactic(auto, unfolding(line::specs::Check::settings_of))]
 pub(crate) fn settings_of(line: &[u16]) -> Settings
     requires { 57 ≤ length line.now }
     ensures { result ≡ settings_of line.now }
 {
     let first = (line[14] % 256) as u8;
-    let mut destination = [0u8; 16];
-    low_into(&mut destination, &line[15..31]);
-    let mut source = [0u8; 16];
-    low_into(&mut source, &line[31..47]);
-    let mut reserved = [0u8; 5];
-    low_into(&mut reserved, &line[49..54]);
     Settings {
         code: first % 16,
         aai: first / 16,
-        destination: destination,
-        source: source,
+        destination: low_bytes(&line[15..31]),
+        source: low_bytes(&line[31..47]),
         block: (line[47] % 256) as u8,
         flag: (line[48] % 256) as u8,
-        reserved: reserved,
+        reserved: low_bytes(&line[49..54]),
     }
 }
 
@@ -60,13 +56,13 @@ fn is_timed(sav: usize, line: &[u16]) -> bool
     let w = line[3];
     let f = w / 256 % 2 == 1;
     let v = w / 128 % 2 == 1;
-    let end = sav + 4;
-    let eav = lists::same_words(&line[0..4], &timing::timing_words(f, v, true));
-    let behind = lists::same_words(&line[sav..end], &timing::timing_words(f, v, false));
+    let eav = line.starts_with(&timing::timing_words(f, v, true));
+    let behind = line[sav..].starts_with(&timing::timing_words(f, v, false));
     eav & behind
 }
 
 // The header words after the first six, each in its form.
+#[tactic(auto, unfolding(line::specs::Check::formed))]
 fn is_formed(line: &[u16]) -> bool
     requires { 57 ≤ length line.now }
     ensures { result ≡ formed line.now }
@@ -79,16 +75,17 @@ fn is_formed(line: &[u16]) -> bool
 }
 
 // The two words at e are the CRC of the words from a to before e.
+#[tactic(auto, using(line::proofs::Fronts::in_front), unfolding(words::specs::Crc::crc_words))]
 fn crc_stands(line: &[u16], a: usize, e: usize) -> bool
     requires { (a ≤ e) × (e + 2 ≤ length line.now) }
     ensures { result ≡ same (part e 2 line.now) (crc_words (part a (e - a) line.now)) }
 {
     let c = sums::crc::crc_of(sums::crc::CRC_START, &line[a..e]);
-    let end = e + 2;
-    lists::same_words(&line[e..end], &sums::crc::crc_words(c))
+    line[e..].starts_with(&sums::crc::crc_words(c))
 }
 
 // The number is 1..N, and B7-B2 of its second word are 0.
+#[tactic(auto, unfolding(line::specs::Check::numbered))]
 fn is_numbered(lines: u16, line: &[u16]) -> bool
     requires { 57 ≤ length line.now }
     ensures { result ≡ numbered lines line.now }
@@ -107,7 +104,7 @@ fn words_fault(s: System, line: &[u16]) -> u8
     let r9 = lists::or_else(!is_numbered(s.lines, line), 9, 0);
     let r8 = lists::or_else(!crc_stands(line, 14, 54), 8, r9);
     let r7 = lists::or_else(!crc_stands(line, 7, 12), 7, r8);
-    let r6 = lists::or_else(!lists::same_words(&line[56..57], &[sum]), 6, r7);
+    let r6 = lists::or_else(line[56] != sum, 6, r7);
     lists::or_else(!is_formed(line), 5, r6)
 }
 
@@ -120,8 +117,7 @@ pub(crate) fn head_fault(s: System, line: &[u16]) -> u8
     if !is_timed(sav, line) {
         return 3;
     }
-    let first = lists::same_words(&line[4..10], &[0x000u16, 0x3ff, 0x3ff, 0x140, 0x101, 0x22e]);
-    if !first {
+    if !line[4..].starts_with(&[0x000, 0x3ff, 0x3ff, 0x140, 0x101, 0x22e]) {
         return 4;
     }
     words_fault(s, line)

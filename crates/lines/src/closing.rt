@@ -6,7 +6,6 @@ ghost use Rattle.writer.specs.Numbers.{answers_by};
 ghost use Rattle.writer.specs.Closing.{close_fault, sealed, closing};
 
 use crate::opening::Reply;
-use course::Place;
 use line::systems::System;
 use line::{check, systems};
 use sums::crc;
@@ -17,10 +16,8 @@ use writer::{adding, state};
 fn close_fault(w: Writer, long: usize) -> u8
     ensures { result ≡ close_fault w long }
 {
-    let place = w.place;
-    let rest = w.rest;
-    let left = state::is_part(rest) & !adding::is_full(state::end_in(w), place);
-    let r20 = lists::or_else(!course::is_at(place) | left, 20, 0);
+    let left = state::is_part(w.rest) & !adding::is_full(state::end_in(w), w.place);
+    let r20 = lists::or_else(!course::is_at(w.place) | left, 20, 0);
     let r2 = lists::or_else(state::is_impossible(w), 2, r20);
     lists::or_else(!check::is_fit(w.system, w.mode, long), 1, r2)
 }
@@ -31,11 +28,9 @@ fn seal(s: System, flag: u8, place: usize, c: u32, line: &mut [u16])
     ensures { line.new ≡ sealed s flag place c line.old }
 {
     if flag == 1 {
-        let e = s.length - 2;
-        let left = lists::minus_or_zero(s.payload - 2, place);
-        let two = crc::crc_words(crc::crc_filler(c, left));
-        line[e] = two[0];
-        line[e + 1] = two[1];
+        let left = (s.payload - 2).saturating_sub(place);
+        let (_, last) = line.split_at_mut(s.length - 2);
+        last.copy_from_slice(&crc::crc_words(crc::crc_filler(c, left)));
     }
 }
 
@@ -52,11 +47,9 @@ pub fn close_line(w: Writer, line: &mut [u16]) -> Reply
         };
     }
     let s = systems::system_of(w.system);
-    let at = w.place;
-    let rest = w.rest;
-    seal(s, w.settings.flag, course::place_of(at), w.crc, line);
+    seal(s, w.settings.flag, course::place_of(w.place), w.crc, line);
     Reply {
         answer: Answer::Done,
-        state: state::moved(w, Place::Shut, rest, crc::CRC_START),
+        state: state::moved(w, None, w.rest, crc::CRC_START),
     }
 }

@@ -1,27 +1,14 @@
-// Lent parts filled with filler. Each is lent exactly the part that it fills, so that no promise has an offset.
-ghost use Rattle.std.specs.Prelude.{◌≡◌, ◌+◌, ◌≤◌, length, replicate};
+// A lent gap filled with filler. It is lent alone, so that the promise has no offset.
+ghost use Rattle.std.specs.Prelude.{◌≡◌, ◌+◌, ◌≤◌, length};
 ghost use Rattle.line.specs.Layout.{gap_word, gap_words};
-
-// Filler 200h.
-pub(crate) fn put_filler(out: &mut [u16])
-    ensures { out.new ≡ replicate (length out.old) 0x200 }
-{
-    let mut i = 0;
-    while i < out.len() {
-        out[i] = 0x200;
-        i += 1;
-    }
-}
 
 // The filler of the gap: by the line's own index, the first word's being index.
 pub(crate) fn put_gap(index: usize, out: &mut [u16])
     requires { index ≤ 65535 }
     ensures { out.new ≡ gap_words index (length out.old) }
 {
-    let mut i = 0;
-    while i < out.len() {
-        out[i] = gap_word(index % 2, i);
-        i += 1;
+    for (i, o) in out.iter_mut().enumerate() {
+        *o = gap_word(index % 2, i);
     }
 }
 

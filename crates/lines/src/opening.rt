@@ -1,16 +1,12 @@
 // Opening a line: all its words are written, the payload all 200h.
-ghost use Rattle.std.specs.Prelude.{◌≡◌, false, ◌++◌, ◌+◌, ◌-◌, ◌≤◌, length, replicate};
+ghost use Rattle.std.specs.Prelude.{◌≡◌, ◌+◌, ◌≤◌, length};
 ghost use Rattle.line.specs.Systems.{system_of};
-ghost use Rattle.line.specs.Timing.{timing_words};
-ghost use Rattle.line.specs.Header.{header_words};
-ghost use Rattle.line.specs.Layout.{gap_words};
 ghost use Rattle.writer.specs.State.{open_state};
 ghost use Rattle.writer.specs.Answers.{answer_numbers, left};
 ghost use Rattle.writer.specs.Numbers.{answers_by};
 ghost use Rattle.writer.specs.Opening.{is_next, open_blocked, open_fault, open_words, opening};
 
 use crate::fill;
-use course::{Last, Place};
 use line::settings::Settings;
 use line::{check, settings, systems};
 use sums::crc;
@@ -25,13 +21,10 @@ pub struct Reply {
 }
 
 // The number comes next; with no last number none does.
-fn is_next(lines: u16, last: Last, n: u16) -> bool
+fn is_next(lines: u16, last: Option<u16>, n: u16) -> bool
     ensures { result ≡ is_next lines last n }
 {
-    match last {
-        Last::Unknown => false,
-        Last::Number(x) => n == course::next_number(lines, x),
-    }
+    matches!(last, Some(x) if n == course::next_number(lines, x))
 }
 
 // Line open already, or unfinished block and a changed setting or a number that isn't next.
@@ -39,12 +32,8 @@ fn is_blocked(w: Writer, n: u16, t: Settings) -> bool
     ensures { result ≡ open_blocked w n t }
 {
     let s = systems::system_of(w.system);
-    let last = w.last;
-    let held = w.settings;
-    let place = w.place;
-    let rest = w.rest;
-    let other = !settings::same_settings(t, held) | !is_next(s.lines, last, n);
-    course::is_at(place) | (state::is_part(rest) & other)
+    let other = !settings::same_settings(t, w.settings) | !is_next(s.lines, w.last, n);
+    course::is_at(w.place) | (state::is_part(w.rest) & other)
 }
 
 // The lowest number whose condition holds, or 0: from the last condition to the first.
@@ -60,61 +49,34 @@ fn open_fault(w: Writer, n: u16, t: Settings, long: usize) -> u8
     lists::or_else(!check::is_fit(w.system, w.mode, long), 1, r2)
 }
 
-// SAV and the payload.
-fn put_payload(f: bool, v: bool, out: &mut [u16])
-    requires { 4 ≤ length out.old }
-    ensures { out.new ≡ timing_words f v false ++ replicate (length out.old - 4) 0x200 }
-{
-    let sav = line::timing::timing_words(f, v, false);
-    blocks::fill::copy_in(&sav, &mut out[..4]);
-    fill::put_filler(&mut out[4..]);
-}
-
-// The gap and what follows it.
-fn put_from_gap(gap: usize, f: bool, v: bool, out: &mut [u16])
-    requires { gap + 4 ≤ length out.old }
-    ensures { out.new ≡ gap_words 57 gap ++ (timing_words f v false ++ replicate (length out.old - gap - 4) 0x200) }
-{
-    fill::put_gap(57, &mut out[..gap]);
-    put_payload(f, v, &mut out[gap..]);
-}
-
-// The header and what follows it.
-fn put_from_header(n: u16, t: Settings, gap: usize, f: bool, v: bool, out: &mut [u16])
-    requires { 53 + gap + 4 ≤ length out.old }
-    ensures { out.new ≡ header_words n t ++ (gap_words 57 gap ++ (timing_words f v false ++ replicate (length out.old - 53 - gap - 4) 0x200)) }
-{
-    let header = line::header::header_words(n, t);
-    blocks::fill::copy_in(&header, &mut out[..53]);
-    put_from_gap(gap, f, v, &mut out[53..]);
-}
-
-// The whole line.
+// The whole line: EAV, the header, the gap, SAV and the payload.
 fn put_line(system: u8, f: bool, v: bool, n: u16, t: Settings, out: &mut [u16])
     requires { ((system_of system).payload + 61 ≤ (system_of system).length) × (length out.old ≡ (system_of system).length) }
     ensures { out.new ≡ open_words system f v n t }
 {
     let s = systems::system_of(system);
-    let gap = s.length - s.payload - 61;
-    let eav = line::timing::timing_words(f, v, true);
-    blocks::fill::copy_in(&eav, &mut out[..4]);
-    put_from_header(n, t, gap, f, v, &mut out[4..]);
+    let (eav, behind) = out.split_at_mut(4);
+    eav.copy_from_slice(&line::timing::timing_words(f, v, true));
+    let (header, behind) = behind.split_at_mut(53);
+    header.copy_from_slice(&line::header::header_words(n, t));
+    let (gap, behind) = behind.split_at_mut(s.length - s.payload - 61);
+    fill::put_gap(57, gap);
+    let (sav, payload) = behind.split_at_mut(4);
+    sav.copy_from_slice(&line::timing::timing_words(f, v, false));
+    payload.fill(0x200);
 }
 
 // The state of an opened line, at its first word, none laid and none of the gap used.
 fn opened(w: Writer, n: u16, t: Settings) -> Writer
     ensures { result ≡ open_state w n t }
 {
-    let rest = w.rest;
     Writer {
-        system: w.system,
-        mode: w.mode,
-        last: Last::Number(n),
+        last: Some(n),
         settings: t,
-        place: Place::At(0),
-        rest: rest,
+        place: Some(0),
         crc: crc::CRC_START,
         used: 0,
+        ..w
     }
 }
 

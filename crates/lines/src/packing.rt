@@ -15,7 +15,6 @@ use writer::state::{Answer, Writer};
 fn pack_fault(w: Writer, long: usize, values: &[u16]) -> u8
     ensures { result ≡ pack_fault w long values.now }
 {
-    let place = w.place;
     let n = values.len();
     if !check::is_fit(w.system, w.mode, long) {
         return 1;
@@ -29,29 +28,16 @@ fn pack_fault(w: Writer, long: usize, values: &[u16]) -> u8
     if 255 < n {
         return 18;
     }
-    let end = w.used as usize + (n + 7);
+    let end = usize::from(w.used) + (n + 7);
     let r24 = lists::or_else(list::gap_length(w.system) < end, 24, 0);
-    lists::or_else(!course::is_at(place), 20, r24)
+    lists::or_else(!course::is_at(w.place), 20, r24)
 }
 
 // The state with more words of the gap used.
 fn used_to(w: Writer, used: u16) -> Writer
     ensures { result ≡ used_to w used }
 {
-    let last = w.last;
-    let settings = w.settings;
-    let place = w.place;
-    let rest = w.rest;
-    Writer {
-        system: w.system,
-        mode: w.mode,
-        last: last,
-        settings: settings,
-        place: place,
-        rest: rest,
-        crc: w.crc,
-        used: used,
-    }
+    Writer { used, ..w }
 }
 
 // Adds a packet; and the numbers of its answer, by the fault.
@@ -68,8 +54,7 @@ pub fn add_packet(w: Writer, did: u8, second: u8, values: &[u16], line: &mut [u1
     }
     let k = values.len() + 7;
     let a = 57 + w.used as usize;
-    let e = a + k;
-    packet::lay(did, second, values, &mut line[a..e]);
+    packet::lay(did, second, values, &mut line[a..a + k]);
     Reply {
         answer: Answer::Done,
         state: used_to(w, (w.used as usize + k) as u16),

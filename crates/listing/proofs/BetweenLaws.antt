@@ -1,5 +1,6 @@
 -- Laws of a reader between two lines: where a line's last event was reported no line is begun, so that the next line is a new one.
 -- Assumes nothing.
+use Rattle.std.specs.Prelude.{Some, None}
 use mathlib.Core.Path.{◌≡◌, refl, sym, ap, ap₂, ◌∙◌, subst}
 use mathlib.Core.Bool.{Bool, true, false}
 use mathlib.Core.List.{List}
@@ -11,7 +12,6 @@ use lib.ListN.{length}
 use borrow.Author.Tests.{eqb-true}
 use Rattle.lists.proofs.Tests.{true_false, pick_false}
 use Rattle.line.specs.Check.{fits, line_fault}
-use Rattle.course.specs.declared.Place.TheVariants.{Shut, At}
 use Rattle.reader.specs.declared.state.Reader.{Reader}
 use Rattle.reader.specs.Reading.{Reply, reply, refused, begun, read_fault, reading_in, reading}
 use Rattle.reader.specs.Lending.{is_last}
@@ -22,12 +22,12 @@ use Rattle.listing.proofs.LineLaws.{one_more, none_behind}
 
 -- no line is begun, and the system is the same
 pub record Rests (st : Reader) (t : Listed) : Type 0 where
-  pub shut : t.state.place ≡ Shut
+  pub shut : t.state.place ≡ None
   pub same : t.state.system ≡ st.system
 
 -- a call that reported the last event is the last
 by_last : (n : ℕ) (line : List ℕ) (s : Listed) (x : Reply) → reading s.state line s.room ≡ x → is_last x.told.event ≡ true
-    → x.told.state.place ≡ Shut → x.told.state.system ≡ s.state.system → Rests s.state (called_by n line (called line s))
+    → x.told.state.place ≡ None → x.told.state.system ≡ s.state.system → Rests s.state (called_by n line (called line s))
 by_last n line s x is last shut same =
     subst (Rests s.state) (sym (none_behind n line (called line s) (ap (λ (y : Reply). is_last y.told.event) is ∙ last)))
     (record { shut = ap (λ (y : Reply). y.told.state.place) is ∙ shut; same = ap (λ (y : Reply). y.told.state.system) is ∙ same })
@@ -36,7 +36,7 @@ over_then : (n : ℕ) (line : List ℕ) (s : Listed) → s.over ≡ false → (c
 over_then n line s o e = sym (ap (λ (x : Listed). x.over) (one_more n line s o)) ∙ e
 
 -- ---- from a place on
-pub rest_shut : (n : ℕ) (line : List ℕ) (s : Listed) (q : ℕ) → s.over ≡ false → read_fault s.state (length line) (length s.room) ≡ 0 → s.state.place ≡ At q
+pub rest_shut : (n : ℕ) (line : List ℕ) (s : Listed) (q : ℕ) → s.over ≡ false → read_fault s.state (length line) (length s.room) ≡ 0 → s.state.place ≡ Some q
     → (called_by n line s).over ≡ true → Rests s.state (called_by n line s)
 unfolding called_by
 rest_shut zero line s q o fit at e = absurd (true_false (sym e ∙ o))
@@ -50,7 +50,7 @@ rest_shut (suc n) line s q o fit at e =
     m.stands.moved)
 
 -- ---- from a line's start on
-module _ (n : ℕ) (line : List ℕ) (s : Listed) (shut : s.state.place ≡ Shut) (o : s.over ≡ false) (e : (called_by (suc n) line s).over ≡ true) where
+module _ (n : ℕ) (line : List ℕ) (s : Listed) (shut : s.state.place ≡ None) (o : s.over ≡ false) (e : (called_by (suc n) line s).over ≡ true) where
   abbrev st : Reader
   st = s.state
 
@@ -79,7 +79,7 @@ module _ (n : ℕ) (line : List ℕ) (s : Listed) (shut : s.state.place ≡ Shut
   any_shut true is = fit_shut (eqb-true _ 0 is) _ refl
   any_shut false is = by_last n line s _ (pick_false _ _ is) refl shut refl
 
-pub line_shut : (n : ℕ) (line : List ℕ) (s : Listed) → s.state.place ≡ Shut → s.over ≡ false → (called_by n line s).over ≡ true → Rests s.state (called_by n line s)
+pub line_shut : (n : ℕ) (line : List ℕ) (s : Listed) → s.state.place ≡ None → s.over ≡ false → (called_by n line s).over ≡ true → Rests s.state (called_by n line s)
 unfolding called_by
 line_shut zero line s shut o e = absurd (true_false (sym e ∙ o))
 line_shut (suc n) line s shut o e = subst (Rests s.state) (sym (one_more n line s o)) (any_shut n line s shut o e _ refl)

@@ -1,8 +1,7 @@
 -- A line listed: it is lent again and again until its last event, and each call's row stands behind the rows before it.
 -- Assumes nothing.
-use Rattle.std.specs.Prelude.{ℕ, zero, suc, Bool, true, false, List, [], ◌++◌, ◌≡◌}
+use Rattle.std.specs.Prelude.{ℕ, zero, suc, Bool, true, false, List, [], ◌++◌, ◌≡◌, None}
 use Rattle.lists.specs.Tests.{pick}
-use Rattle.course.specs.declared.Place.TheVariants.{Shut}
 use Rattle.reader.specs.declared.state.Reader.{Reader}
 use Rattle.reader.specs.Reading.{reading}
 use Rattle.reader.specs.Lending.{is_last}
@@ -39,7 +38,7 @@ listing st line room = called_by most line (listed false st room [])
 -- between two lines: system 0, and no line begun
 pub record Between (st : Reader) : Type 0 where
   pub zeroth : st.system ≡ 0
-  pub shut : st.place ≡ Shut
+  pub shut : st.place ≡ None
 
 -- State, room and text are those of the line listed. Between two lines its last event was reported, and it is between two lines again.
 pub record Lists (st : Reader) (line before : List ℕ) (after : Reader) (room text : List ℕ) : Type 0 where

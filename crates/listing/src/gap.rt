@@ -3,39 +3,26 @@
 use packets::list;
 use std::io;
 
-// The row of the packet that is listed from index i on: where the next one begins.
-fn put_packet(rt: &impl Print, out: &[u16; 215], i: usize) -> io::Result<usize> {
-    if 212 < i {
-        return Ok(i);
-    }
-    println!(rt; "packet {} {} {}", out[i], out[i + 1], out[i + 2])?;
-    Ok(i + 3 + (out[i + 2] % 256) as usize)
-}
-
-fn put_packets(rt: &impl Print, out: &[u16; 215], packets: usize) -> io::Result<()> {
-    let mut i = 0;
-    let mut left = packets;
-    while left > 0 {
-        i = put_packet(rt, out, i)?;
-        left -= 1;
+// The rows of so many packets of a list. A packet is its DID, its second word and its count, and as many words as the count says.
+fn put_packets(rt: &impl Print, listed: &[u16], packets: usize) -> io::Result<()> {
+    let mut rest = listed;
+    for _ in 0..packets {
+        let [did, second, count, behind @ ..] = rest else {
+            break;
+        };
+        println!(rt; "packet {did} {second} {count}")?;
+        rest = behind.get(usize::from(*count % 256)..).unwrap_or(&[]);
     }
     Ok(())
 }
 
-fn put_bad(rt: &impl Print, stop: u8) -> io::Result<()> {
-    if stop != 0 {
-        println!(rt; "bad {stop}")?;
-    }
-    Ok(())
-}
-
-// The rows of a line's packets, where they are wanted.
-pub(crate) fn list_gap(rt: &impl Print, wanted: bool, line: &[u16; 1716]) -> io::Result<()> {
-    if wanted {
-        let mut out = [0u16; 215];
-        let x = list::list(0, 8, line, &mut out);
-        put_packets(rt, &out, x.packets)?;
-        put_bad(rt, x.stop)?;
+// The rows of a line's packets.
+pub(crate) fn list_gap(rt: &impl Print, line: &[u16; 1716]) -> io::Result<()> {
+    let mut out = [0u16; 215];
+    let x = list::list(0, 8, line, &mut out);
+    put_packets(rt, &out, x.packets)?;
+    if x.stop != 0 {
+        println!(rt; "bad {}", x.stop)?;
     }
     Ok(())
 }

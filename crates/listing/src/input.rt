@@ -1,68 +1,23 @@
 // A line's bytes from standard input. The input's end is told from a read that failed; a read that was interrupted, or that found
 // nothing ready, is made again.
-ghost use Rattle.std.specs.Prelude.{◌≤◌, length};
+use std::io;
+use std::io::{ErrorKind, Read};
 
-use std::io::{Error, ErrorKind, Read};
-
-// What was read: so many bytes, whether more may come, and why a read failed, where one did.
-#[derive(Clone, Copy)]
-pub struct Got {
-    pub count: usize,
-    pub more: bool,
-    pub failed: Option<Error>,
-}
-
-// After a read that brought nothing. No call that waits until something is ready can be had here, and none that lets another process run
-// first, so the next read is made at once.
-fn after_error(error: Error) -> Got
-    ensures { result.count ≤ 0 }
-{
-    let kind = error.kind();
-    if kind == ErrorKind::Interrupted || kind == ErrorKind::WouldBlock {
-        return Got {
-            count: 0,
-            more: true,
-            failed: None,
-        };
+// Reads until the line is whole, the input ends or a read fails: how many bytes were read. No call that waits until something is ready can be had here,
+// and none that lets another process run first, so the next read is made at once. Nothing says how often a read has to be made again, so the turns are
+// counted, up to a number that no run uses up.
+pub(crate) fn read_line(from: &mut impl Read, bytes: &mut [u8]) -> io::Result<usize> {
+    let mut done = 0;
+    for _ in 0..u64::MAX {
+        if done == bytes.len() {
+            break;
+        }
+        match from.read(&mut bytes[done..]) {
+            Ok(0) => break,
+            Ok(n) => done += n,
+            Err(e) if matches!(e.kind(), ErrorKind::Interrupted | ErrorKind::WouldBlock) => {}
+            Err(e) => return Err(e),
+        }
     }
-    Got {
-        count: 0,
-        more: false,
-        failed: Some(error),
-    }
-}
-
-// One read.
-fn read_some(from: &mut impl Read, part: &mut [u8]) -> Got
-    ensures { result.count ≤ length part.new }
-{
-    match from.read(part) {
-        Ok(n) => Got {
-            count: n,
-            more: n > 0,
-            failed: None,
-        },
-        Err(e) => after_error(e),
-    }
-}
-
-// Reads until the line is whole, the input ends or a read fails. Nothing says how often a read has to be made again, so the loop counts
-// its turns down from a number that no run uses up.
-pub(crate) fn read_line(from: &mut impl Read, bytes: &mut [u8]) -> Got {
-    let mut done = 0usize;
-    let mut more = true;
-    let mut failed = None;
-    let mut turns = u64::MAX;
-    while turns > 0 && done < bytes.len() && more {
-        let now = read_some(from, &mut bytes[done..]);
-        done += now.count;
-        more = now.more;
-        failed = now.failed;
-        turns -= 1;
-    }
-    Got {
-        count: done,
-        more: more,
-        failed: failed,
-    }
+    Ok(done)
 }

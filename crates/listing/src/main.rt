@@ -8,36 +8,14 @@
 mod gap; // gap.rt: rows of the packets in a line's gap
 mod input;
 
-ghost use Rattle.std.specs.Prelude.{◌≡◌, ◌++◌, ◌+◌, ◌≤◌, length, take};
+ghost use Rattle.std.specs.Prelude.{◌≡◌, ◌++◌, ◌+◌, ◌≤◌, length, take, IfSome};
 ghost use Rattle.rows.specs.Rows.{row_text};
 ghost use Rattle.listing.specs.Lines.{Between, Lists};
 
-use input::Got;
 use reader::state::{Event, Reader};
 use reader::{read, state};
-use std::env::{Env, FillError};
 use std::io;
 use std::io::Read;
-
-// What goes from line to line: the reader's state, whether more lines may come, and whether packets are listed too.
-#[derive(Clone, Copy)]
-pub struct Kept {
-    pub state: Reader,
-    pub more: bool,
-    pub packets: bool,
-}
-
-// Bytes behind the first n bytes of a text.
-fn put_bytes(s: &[u8], n: usize, text: &mut [u8])
-    requires { n + length s.now ≤ length text.old }
-    ensures { take (n + length s.now) text.new ≡ take n text.old ++ s.now }
-{
-    let mut i = 0;
-    while i < s.len() {
-        text[n + i] = s[i];
-        i += 1;
-    }
-}
 
 // The row of an event behind the first n bytes of a text: how many bytes the text has then.
 fn put_row(event: Event, n: usize, text: &mut [u8]) -> usize
@@ -45,10 +23,10 @@ fn put_row(event: Event, n: usize, text: &mut [u8]) -> usize
     ensures { (take result text.new ≡ take n text.old ++ row_text event) × (result ≤ n + 48) }
 {
     let row = rows::row_of(event);
-    let bytes = row.bytes;
-    let k = row.length;
-    put_bytes(&bytes[..k], n, text);
-    n + k
+    let bytes = row.as_bytes();
+    let end = n + bytes.len();
+    text[n..end].copy_from_slice(bytes);
+    end
 }
 
 // What a line leaves beside room and text: the reader's state, and how many bytes of text its rows have.
@@ -66,109 +44,70 @@ fn list_line(st: Reader, line: &[u16], room: &mut [u16], text: &mut [u8]) -> Lef
         × (result.length ≤ length text.new) }
 {
     let mut state = st;
-    let mut more = true;
-    let mut calls = 0usize;
-    let mut n = 0usize;
-    while calls < 1442 && more {
+    let mut n = 0;
+    for _ in 0..1442u16 {
         let told = read::read(state, line, room);
-        let event = told.event;
-        let next = told.state;
-        n = put_row(event, n, text);
-        more = rows::goes_on(event);
-        state = next;
-        calls += 1;
+        state = told.state;
+        n = put_row(told.event, n, text);
+        if !rows::goes_on(told.event) {
+            break;
+        }
     }
-    Left {
-        state: state,
-        length: n,
+    Left { state, length: n }
+}
+
+// Writes the rows of a line, and those of its packets where they are wanted.
+fn write_rows(rt: &impl Print, text: &[u8], packets: bool, line: &[u16; 1716]) -> io::Result<()> {
+    rt.write_all(text)?;
+    if packets {
+        gap::list_gap(rt, line)?;
     }
+    Ok(())
 }
 
 // Whether a write succeeded. Where it did not it is said why, and where that cannot be said either, nothing is.
 fn is_written(rt: &impl Eprint, done: io::Result<()>) -> bool {
-    match done {
-        Ok(()) => true,
-        Err(e) => {
-            let _ = eprintln!(rt; "listing: standard output: {e}");
-            false
-        }
+    if let Err(e) = &done {
+        let _ = eprintln!(rt; "listing: standard output: {e}");
     }
+    done.is_ok()
 }
 
-// Writes a text, and answers whether it was written.
-fn write_text(rt: &(impl Print + Eprint), text: &[u8]) -> bool {
-    is_written(rt, rt.write_all(text))
-}
-
-// Writes the rows of a line, and those of its packets where they are wanted, and answers whether all were written.
-fn write_rows(rt: &(impl Print + Eprint), text: &[u8], packets: bool, line: &[u16; 1716]) -> bool {
-    if !write_text(rt, text) {
-        return false;
-    }
-    is_written(rt, gap::list_gap(rt, packets, line))
-}
-
-// Where no whole line is left: a line that is cut is refused, and a read that failed is said.
-fn list_rest(rt: &(impl Print + Eprint), got: Got, text: &mut [u8])
-    requires { length text.old ≡ 69216 }
-{
-    if let Some(e) = got.failed {
-        let _ = eprintln!(rt; "listing: standard input: {e}");
-        return;
-    }
-    if got.count > 0 {
-        let cut = Event::Refused {
-            answer: 1,
-            dropped: false,
-        };
-        let e = put_row(cut, 0, text);
-        write_text(rt, &text[..e]);
-    }
-}
-
-// Reads a line and lists it. One that is not whole is the last, and so is one that could not be written. No line is begun where the next
-// one is read.
+// Reads a line and lists it: the reader's state behind it. None follows one that is not whole, which is refused where it has a byte, nor one that
+// could not be read or written.
 fn next_line(
     rt: &(impl Print + Eprint),
     from: &mut impl Read,
-    kept: Kept,
+    st: Reader,
+    packets: bool,
     room: &mut [u16; 16384],
     text: &mut [u8],
-) -> Kept
+) -> Option<Reader>
     requires { length text.old ≡ 69216 }
-    ensures { Between kept.state → Between result.state }
+    ensures { IfSome result (λ next. Between st → Between next) }
 {
-    let st = kept.state;
-    let packets = kept.packets;
     let mut bytes = [0u8; 3432];
-    let got = input::read_line(from, &mut bytes);
-    if got.count < 3432 {
-        list_rest(rt, got, text);
-        return Kept {
-            state: st,
-            more: false,
-            packets: packets,
-        };
-    }
-    let mut line = [0u16; 1716];
-    octets::words_of(&bytes, &mut line);
-    let left = list_line(st, &line, room, text);
-    let after = left.state;
-    let e = left.length;
-    let more = write_rows(rt, &text[..e], packets, &line);
-    Kept {
-        state: after,
-        more: more,
-        packets: packets,
-    }
-}
-
-// Whether there is a word behind the program's own name.
-fn has_word(rt: &impl Env) -> bool {
-    let mut word = [0u8; 8];
-    match rt.arg(1, &mut word) {
-        Err(FillError::NotPresent) => false,
-        _ => true,
+    match input::read_line(from, &mut bytes) {
+        Ok(3432) => {
+            let mut line = [0u16; 1716];
+            octets::words_of(&bytes, &mut line);
+            let left = list_line(st, &line, room, text);
+            let done = write_rows(rt, &text[..left.length], packets, &line);
+            is_written(rt, done).then_some(left.state)
+        }
+        Ok(0) => None,
+        Ok(_) => {
+            let cut = Event::Refused {
+                answer: 1,
+                dropped: false,
+            };
+            let _ = is_written(rt, rt.write_all(rows::row_of(cut).as_bytes()));
+            None
+        }
+        Err(e) => {
+            let _ = eprintln!(rt; "listing: standard input: {e}");
+            None
+        }
     }
 }
 
@@ -176,14 +115,12 @@ fn main(rt: HostRuntime) {
     let mut from = rt.stdin();
     let mut room = [0u16; 16384];
     let mut text = [0u8; 69216];
-    let mut kept = Kept {
-        state: state::fresh_reader(0, 8),
-        more: true,
-        packets: has_word(&rt),
-    };
-    let mut turns = u64::MAX;
-    while turns > 0 && kept.more {
-        kept = next_line(&rt, &mut from, kept, &mut room, &mut text);
-        turns -= 1;
+    let packets = arguments::has_word(&rt, 1);
+    let mut st = state::fresh_reader(0, 8);
+    for _ in 0..u64::MAX {
+        let Some(next) = next_line(&rt, &mut from, st, packets, &mut room, &mut text) else {
+            break;
+        };
+        st = next;
     }
 }

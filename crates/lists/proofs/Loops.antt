@@ -67,15 +67,6 @@ test_chunk f s ok b i n t h e =
 pub test_end : (f : ℕ → Bool) (s : List ℕ) (ok : Bool) (i : ℕ) → Testing f s ok i → length s ≤ i → ok ≡ each f s
 test_end f s ok i t h = each_end f ok i s h ∙ t.is
 
-pub same_next : (ok : Bool) (i : ℕ) (s t : List ℕ) → i < length s → i < length t
-    → ((ok && eqb (get_or s i 0) (get_or t i 0)) && same (drop (i + 1) s) (drop (i + 1) t)) ≡ (ok && same (drop i s) (drop i t))
-same_next ok i s t h k =
-    and_next ok (eqb (get_or s i 0) (get_or t i 0)) (same (drop (i + 1) s) (drop (i + 1) t))
-    ∙ ap₂ (λ (a b : List ℕ). ok && same a b) (sym (next_drop s i h)) (sym (next_drop t i k))
-
-pub same_end : (ok : Bool) (i : ℕ) (s t : List ℕ) → length s ≤ i → length t ≤ i → ok ≡ (ok && same (drop i s) (drop i t))
-same_end ok i s t h k = sym (ap₂ (λ (a b : List ℕ). ok && same a b) (drop_of_length-le s h) (drop_of_length-le t k) ∙ and_end ok)
-
 pub same_lengths : (s t : List ℕ) → (length s ≡ length t → ⊥) → same s t ≡ false
 same_lengths [] [] h = absurd (h refl)
 same_lengths [] (y ∷ t) h = refl

@@ -1,16 +1,18 @@
 -- A whole head taken at once is the machine's own six steps: each of its words reports nothing and keeps nothing.
 -- Assumes nothing.
-use mathlib.Core.Path.{◌≡◌, refl, sym, ap, ap₂, ◌∙◌, subst}
+use mathlib.Core.Path.{◌≡◌, refl, sym, ap, ◌∙◌, subst}
 use mathlib.Core.Bool.{Bool, true, false, ◌&&◌, not}
 use mathlib.Core.List.{List, [], ◌∷◌}
 use Prim.Native.Nat.{ℕ, ◌+◌, ◌*◌, ◌%◌, ◌≤◌, ◌<◌}
 use native.Mathlib.Omega.{arith}
 use lib.Dec.{T, eqb, leb}
+use Rattle.std.specs.List.{fold}
+use Rattle.std.proofs.Math.Bool.{and_assoc, and-true}
 use lib.ListN.{length, get_or, take, drop}
-use borrow.Author.Tests.{leb-true, eqb-true, le-ltb, le-leb, lt-leb, eq-eqb, not-true}
+use borrow.Author.Tests.{leb-true, eqb-true, le-ltb, le-leb, lt-leb, not-true}
 use Rattle.lists.specs.Tests.{pick}
 use Rattle.lists.specs.Lists.{each}
-use Rattle.lists.proofs.Tests.{pick_true, pick_false, both_true, and_none}
+use Rattle.lists.proofs.Tests.{pick_false, both_true, and_none}
 use Rattle.words.specs.Forms.{is_byte}
 use Rattle.words.specs.Modes.{value_of}
 use Rattle.words.specs.Class.{class_of, separator}
@@ -26,6 +28,11 @@ use Rattle.machine.specs.Walk.{Walk, past, collected_of, stored, walk_of}
 use Rattle.machine.specs.Heads.{count_at, head_stands, head_of, head_taken, head_phase}
 use Rattle.machine.proofs.StepLaws.{step_classed}
 use Rattle.machine.proofs.WalkLaws.{past_zero, past_past, word_goes}
+
+-- ---- a test of each word
+pub folded_each : (ok : Bool) (ws : List ℕ) → fold (λ (b : Bool) (w : ℕ). b && is_byte w) ok ws ≡ (ok && each is_byte ws)
+folded_each ok [] = sym (and-true ok)
+folded_each ok (w ∷ ws) = folded_each (ok && is_byte w) ws ∙ and_assoc ok (is_byte w) (each is_byte ws)
 
 -- ---- a word that only leads from one phase to another
 nothing_stored : (m v : ℕ) (room : List ℕ) → room ≡ stored false m v room
@@ -108,33 +115,13 @@ module _ (room : ℕ) (ws : List ℕ) where
   unfolding head_stands
   head_short h = ap (λ (b : Bool). b && (eqb (get_or ws 0 0) separator && (each is_byte (take 5 (drop 1 ws)) && leb (count_at ws) room))) (lt-leb 6 (length ws) h)
 
-  pub head_else : eqb (get_or ws 0 0) separator ≡ false → head_stands room ws ≡ false
-  unfolding head_stands
-  head_else e = and_none (leb 6 (length ws)) _ (ap (λ (b : Bool). b && (each is_byte (take 5 (drop 1 ws)) && leb (count_at ws) room)) e)
-
-  pub head_whole : 6 ≤ length ws → get_or ws 0 0 ≡ separator → head_stands room ws ≡ (each is_byte (take 5 (drop 1 ws)) && leb (count_at ws) room)
-  unfolding head_stands
-  head_whole h e =
-      ap₂ (λ (a b : Bool). a && (b && (each is_byte (take 5 (drop 1 ws)) && leb (count_at ws) room))) (le-leb 6 (length ws) h) (eq-eqb (get_or ws 0 0) separator e)
-
   module _ (p : Phase) where
-    pub head_busy : is_busy p ≡ true → head_of room p ws ≡ false
-    unfolding head_of
-    head_busy e = ap (λ (b : Bool). not b && head_stands room ws) e
-
     pub head_not : head_stands room ws ≡ false → head_of room p ws ≡ false
     unfolding head_of
     head_not e = and_none (not (is_busy p)) (head_stands room ws) e
 
-    pub head_idle : is_busy p ≡ false → head_stands room ws ≡ true → head_of room p ws ≡ true
-    unfolding head_of
-    head_idle e f = ap₂ (λ (a b : Bool). not a && b) e f
-
     pub head_none : head_of room p ws ≡ false → (0 ≡ head_taken room p ws) × (p ≡ head_phase room p ws)
     head_none e = (sym (pick_false _ _ e), sym (pick_false _ _ e))
-
-    pub head_one : head_of room p ws ≡ true → (6 ≡ head_taken room p ws) × (Data (Typed (get_or ws 1 0 % 256)) (count_at ws) 0 ≡ head_phase room p ws)
-    head_one e = (sym (pick_true _ _ e), sym (pick_true _ _ e))
 
 -- ---- taken or not
 pub head_within : (room : ℕ) (p : Phase) (ws : List ℕ) → head_taken room p ws ≤ length ws

@@ -84,11 +84,6 @@ value_inside : (room n m : ℕ) (z : Bool) → (not z && leb n m) ≡ false → 
 value_inside room n m true x y e = leb-false room m y
 value_inside room n m false x y e = omega (arith, leb-false n m x, ltb-false room n e)
 
--- so it can be counted wherever the count and the room can
-pub value_small : (room n m bound : ℕ) (z : Bool) → (not z && leb n m) ≡ false → (z && leb room m) ≡ false → n < bound → room < bound → m + 1 < bound
-value_small room n m bound true x y low high = omega (arith, leb-false room m y)
-value_small room n m bound false x y low high = omega (arith, leb-false n m x)
-
 value_by : (room : ℕ) (k : Mark) (n m : ℕ) (a b v : Bool) → (not (eqb n 0) && leb n m) ≡ a → (eqb n 0 && leb room m) ≡ b
     → Steady room (Data k n m) (pick a (dropped 5) (pick b (dropped 6) (pick v (dropped 7) (record { phase = Data k n (m + 1); met = Nothing; keeps = ltb m room }))))
 unfolding pick

@@ -225,7 +225,7 @@ most_within (Data t n m) room long = omega arith
 pub taken_within : (mode : ℕ) (p : Phase) (room : ℕ) (ws : List ℕ) → taken_by mode p room ws ≤ length ws
 taken_within mode p room ws = omega (arith, (run_of_part mode (most_by p room (length ws)) ws).1, most_within p room (length ws))
 
-end_in_room : (room n : ℕ) → limit_of room n ≤ room
+pub end_in_room : (room n : ℕ) → limit_of room n ≤ room
 unfolding limit_of pick
 end_in_room room n = go (eqb n 0)
   where

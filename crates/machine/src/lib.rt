@@ -1,4 +1,4 @@
-// The word machine: 01's table of variable words by phase, one word at a time, and what the walks over words and over bytes share. It knows
+// The word machine: 01's table of variable words by phase, one word at a time, and what the walk asks of runs and heads. It knows
 // no line and no settings; the room's length is its capacity. All definitions of walks, and their laws, stand here.
 #![tactic(auto)]
 

@@ -3,7 +3,7 @@ ghost use Rattle.std.specs.Prelude.{◌≡◌};
 ghost use Rattle.machine.specs.Phases.{is_busy, misphased};
 ghost use Rattle.machine.specs.Walk.{collected_of};
 
-// What the type word said: a type; or, by 100h, that this is a null, which is walked like a block and not handed out.
+// What the type word said: a type; or, by 100h, that this is a null, which is walked like a block and not handed out. Not an `Option`: a null is said, not missing.
 #[derive(Clone, Copy)]
 pub enum Mark {
     Typed(u8),
@@ -45,28 +45,7 @@ pub enum Phase {
 pub fn is_busy(phase: Phase) -> bool
     ensures { result ≡ is_busy phase }
 {
-    match phase {
-        Phase::Idle => false,
-        Phase::Kind => true,
-        Phase::First { mark: _ } => true,
-        Phase::Second { mark: _, b0: _ } => true,
-        Phase::Third {
-            mark: _,
-            b0: _,
-            b1: _,
-        } => true,
-        Phase::Fourth {
-            mark: _,
-            b0: _,
-            b1: _,
-            b2: _,
-        } => true,
-        Phase::Data {
-            mark: _,
-            announced: _,
-            collected: _,
-        } => true,
-    }
+    !matches!(phase, Phase::Idle)
 }
 
 // Announced or collected above the room's length; collected above a nonzero count.
@@ -74,26 +53,12 @@ pub fn is_misphased(room: usize, phase: Phase) -> bool
     ensures { result ≡ misphased room phase }
 {
     match phase {
-        Phase::Idle => false,
-        Phase::Kind => false,
-        Phase::First { mark: _ } => false,
-        Phase::Second { mark: _, b0: _ } => false,
-        Phase::Third {
-            mark: _,
-            b0: _,
-            b1: _,
-        } => false,
-        Phase::Fourth {
-            mark: _,
-            b0: _,
-            b1: _,
-            b2: _,
-        } => false,
         Phase::Data {
-            mark: _,
             announced: n,
             collected: m,
+            ..
         } => (room < n) | ((room < m) | ((n != 0) & (n < m))),
+        _ => false,
     }
 }
 
@@ -102,25 +67,7 @@ pub fn collected_of(phase: Phase) -> usize
     ensures { result ≡ collected_of phase }
 {
     match phase {
-        Phase::Idle => 0,
-        Phase::Kind => 0,
-        Phase::First { mark: _ } => 0,
-        Phase::Second { mark: _, b0: _ } => 0,
-        Phase::Third {
-            mark: _,
-            b0: _,
-            b1: _,
-        } => 0,
-        Phase::Fourth {
-            mark: _,
-            b0: _,
-            b1: _,
-            b2: _,
-        } => 0,
-        Phase::Data {
-            mark: _,
-            announced: _,
-            collected,
-        } => collected,
+        Phase::Data { collected, .. } => collected,
+        _ => 0,
     }
 }

@@ -21,13 +21,11 @@ pub fn stops(mode: u8, w: u16) -> bool
 }
 
 // How many data words a block may have: up to the count, if it is stated, and to the room's end.
+#[tactic(auto, unfolding(crate::specs::Runs::limit_of, lists::specs::Tests::pick))]
 pub fn limit_of(room: usize, n: usize) -> usize
     ensures { result ≡ limit_of room n }
 {
-    if n == 0 {
-        return room;
-    }
-    lists::smaller_of(n, room)
+    if n == 0 { room } else { n.min(room) }
 }
 
 // How many of so many words a phase takes at once, if no run ends among them: idle all, data as many as there is space for.
@@ -37,27 +35,11 @@ pub fn most_of(phase: Phase, long: usize, room: usize) -> usize
     match phase {
         Phase::Idle => long,
         Phase::Data {
-            mark: _,
             announced,
             collected,
-        } => lists::smaller_of(
-            long,
-            lists::minus_or_zero(limit_of(room, announced), collected),
-        ),
-        Phase::Kind => 0,
-        Phase::First { mark: _ } => 0,
-        Phase::Second { mark: _, b0: _ } => 0,
-        Phase::Third {
-            mark: _,
-            b0: _,
-            b1: _,
-        } => 0,
-        Phase::Fourth {
-            mark: _,
-            b0: _,
-            b1: _,
-            b2: _,
-        } => 0,
+            ..
+        } => long.min(limit_of(room, announced).saturating_sub(collected)),
+        _ => 0,
     }
 }
 
@@ -65,14 +47,12 @@ pub fn most_of(phase: Phase, long: usize, room: usize) -> usize
 pub fn took(phase: Phase, taken: usize) -> Ran
     ensures { (result.phase ≡ phase) × (result.taken ≡ taken) }
 {
-    Ran {
-        phase: phase,
-        taken: taken,
-    }
+    Ran { phase, taken }
 }
 
-// The phase behind so many words of a run, of which it takes no more than it may: data collects them. The walk over bytes asks for it; the one over words
-// matches on the phase itself, which is faster there.
+// The phase behind so many words of a run, of which it takes no more than it may: data collects them. The crate `walks` does not ask for it:
+// there a match on the phase itself is faster.
+#[tactic(auto, using(crate::proofs::RunLaws::end_in_room))]
 pub fn behind(phase: Phase, room: usize, k: usize) -> Ran
     ensures { (result.taken ≡ most_by phase room k) × (result.phase ≡ ran_phase phase (most_by phase room k)) }
 {
@@ -83,28 +63,13 @@ pub fn behind(phase: Phase, room: usize, k: usize) -> Ran
             announced,
             collected,
         } => {
-            let all = collected + taken;
             let next = Phase::Data {
-                mark: mark,
-                announced: announced,
-                collected: all,
+                mark,
+                announced,
+                collected: collected + taken,
             };
             took(next, taken)
         }
-        Phase::Idle => took(phase, taken),
-        Phase::Kind => took(phase, taken),
-        Phase::First { mark: _ } => took(phase, taken),
-        Phase::Second { mark: _, b0: _ } => took(phase, taken),
-        Phase::Third {
-            mark: _,
-            b0: _,
-            b1: _,
-        } => took(phase, taken),
-        Phase::Fourth {
-            mark: _,
-            b0: _,
-            b1: _,
-            b2: _,
-        } => took(phase, taken),
+        _ => took(phase, taken),
     }
 }

@@ -30,7 +30,7 @@ fn go_on(phase: Phase) -> Step
     ensures { result ≡ on phase }
 {
     Step {
-        phase: phase,
+        phase,
         met: Met::Nothing,
         keeps: false,
     }
@@ -41,7 +41,7 @@ fn lose(reason: u8) -> Step
 {
     Step {
         phase: Phase::Idle,
-        met: Met::Lost { reason: reason },
+        met: Met::Lost { reason },
         keeps: false,
     }
 }
@@ -52,8 +52,7 @@ fn start_again() -> Step
 {
     Step {
         phase: Phase::Kind,
-        met: Met::Lost { reason: 1 },
-        keeps: false,
+        ..lose(1)
     }
 }
 
@@ -62,11 +61,7 @@ fn idle_step(c: Class) -> Step
 {
     match c {
         Class::Separator => go_on(Phase::Kind),
-        Class::Byte => go_on(Phase::Idle),
-        Class::Other => go_on(Phase::Idle),
-        Class::Ending => go_on(Phase::Idle),
-        Class::Illegal => go_on(Phase::Idle),
-        Class::Null => go_on(Phase::Idle),
+        _ => go_on(Phase::Idle),
     }
 }
 
@@ -79,9 +74,8 @@ fn kind_step(c: Class, b: u8) -> Step
         Class::Byte => go_on(Phase::First {
             mark: Mark::Typed(b),
         }),
-        Class::Other => lose(2),
-        Class::Illegal => lose(2),
         Class::Null => go_on(Phase::First { mark: Mark::Nulled }),
+        Class::Other | Class::Illegal => lose(2),
     }
 }
 
@@ -93,13 +87,12 @@ fn count_step(c: Class, next: Step) -> Step
         Class::Separator => start_again(),
         Class::Ending => lose(4),
         Class::Byte => next,
-        Class::Other => lose(3),
-        Class::Illegal => lose(3),
-        Class::Null => lose(3),
+        Class::Other | Class::Illegal | Class::Null => lose(3),
     }
 }
 
 // The count is whole.
+#[tactic(auto, unfolding(crate::specs::Machine::counted, lists::specs::Tests::pick))]
 fn count_whole(room: usize, mark: Mark, n: usize) -> Step
     ensures { result ≡ counted room mark n }
 {
@@ -107,7 +100,7 @@ fn count_whole(room: usize, mark: Mark, n: usize) -> Step
         return lose(3);
     }
     go_on(Phase::Data {
-        mark: mark,
+        mark,
         announced: n,
         collected: 0,
     })
@@ -120,16 +113,14 @@ fn hand_out(mark: Mark, m: usize) -> Step
     match mark {
         Mark::Typed(kind) => Step {
             phase: Phase::Idle,
-            met: Met::Whole {
-                kind: kind,
-                length: m,
-            },
+            met: Met::Whole { kind, length: m },
             keeps: false,
         },
         Mark::Nulled => go_on(Phase::Idle),
     }
 }
 
+#[tactic(auto, unfolding(crate::specs::Machine::end_step, lists::specs::Tests::pick))]
 fn end_step(mark: Mark, n: usize, m: usize) -> Step
     ensures { result ≡ end_step mark n m }
 {
@@ -141,6 +132,7 @@ fn end_step(mark: Mark, n: usize, m: usize) -> Step
 
 // A data word: past a met count, past the room with no count, no value, or one whose value goes into the room, if its place is there. Asked
 // at the write itself, that last test makes reading up to ten times slower (docs/PERFORMANCE.md).
+#[tactic(auto, unfolding(crate::specs::Machine::value_step, lists::specs::Tests::pick))]
 fn value_step(void: bool, room: usize, mark: Mark, n: usize, m: usize) -> Step
     ensures { result ≡ value_step void room mark n m }
 {
@@ -155,7 +147,7 @@ fn value_step(void: bool, room: usize, mark: Mark, n: usize, m: usize) -> Step
     }
     Step {
         phase: Phase::Data {
-            mark: mark,
+            mark,
             announced: n,
             collected: m + 1,
         },
@@ -171,18 +163,9 @@ fn data_step(mode: u8, room: usize, mark: Mark, n: usize, m: usize, c: Class) ->
     match c {
         Class::Separator => start_again(),
         Class::Ending => end_step(mark, n, m),
-        Class::Byte => value_step(false, room, mark, n, m),
-        Class::Other => value_step(false, room, mark, n, m),
-        Class::Illegal => value_step(false, room, mark, n, m),
+        Class::Byte | Class::Other | Class::Illegal => value_step(false, room, mark, n, m),
         Class::Null => value_step(mode == 8, room, mark, n, m),
     }
-}
-
-// The number that four count bytes spell, lowest byte first.
-fn count_of(b0: u8, b1: u8, b2: u8, b3: u8) -> usize
-    ensures { result ≡ b0 + b1 * 256 + b2 * 65536 + b3 * 16777216 }
-{
-    b0 as usize + b1 as usize * 256 + b2 as usize * 65536 + b3 as usize * 16777216
 }
 
 // One word of that class, in that mode and a room of that length.
@@ -193,27 +176,20 @@ pub fn step_by(c: Class, mode: u8, room: usize, phase: Phase, w: u16) -> Step
     match phase {
         Phase::Idle => idle_step(c),
         Phase::Kind => kind_step(c, b),
-        Phase::First { mark } => count_step(c, go_on(Phase::Second { mark: mark, b0: b })),
-        Phase::Second { mark, b0 } => count_step(
-            c,
-            go_on(Phase::Third {
-                mark: mark,
-                b0: b0,
-                b1: b,
-            }),
-        ),
+        Phase::First { mark } => count_step(c, go_on(Phase::Second { mark, b0: b })),
+        Phase::Second { mark, b0 } => count_step(c, go_on(Phase::Third { mark, b0, b1: b })),
         Phase::Third { mark, b0, b1 } => count_step(
             c,
             go_on(Phase::Fourth {
-                mark: mark,
-                b0: b0,
-                b1: b1,
+                mark,
+                b0,
+                b1,
                 b2: b,
             }),
         ),
         Phase::Fourth { mark, b0, b1, b2 } => count_step(
             c,
-            count_whole(room, mark, count_of(b0, b1, b2, b)),
+            count_whole(room, mark, u32::from_le_bytes([b0, b1, b2, b]) as usize),
         ),
         Phase::Data {
             mark,

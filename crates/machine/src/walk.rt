@@ -17,9 +17,5 @@ pub struct Walked {
 pub fn is_nothing(met: Met) -> bool
     ensures { result ≡ is_nothing met }
 {
-    match met {
-        Met::Nothing => true,
-        Met::Whole { kind: _, length: _ } => false,
-        Met::Lost { reason: _ } => false,
-    }
+    matches!(met, Met::Nothing)
 }

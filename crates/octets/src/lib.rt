@@ -17,7 +17,7 @@ pub fn is_even(bytes: &[u8]) -> bool
 pub fn joined(low: u8, high: u8) -> u16
     ensures { result ≡ low + high * 256 }
 {
-    low as u16 + high as u16 * 256
+    u16::from(low) + u16::from(high) * 256
 }
 
 // Word i of the bytes; 0 where there is none.
@@ -25,24 +25,23 @@ pub fn word_at(bytes: &[u8], i: usize) -> u16
     ensures { result ≡ get_or (words_of bytes.now) i 0 }
 {
     if i < bytes.len() / 2 {
-        return joined(bytes[2 * i], bytes[2 * i + 1]);
+        joined(bytes[2 * i], bytes[2 * i + 1])
+    } else {
+        0
     }
-    0
 }
 
 // The words of the bytes, so many as there are whole pairs of bytes and room for; the rest of out stays.
+// By an index: the definition of what is laid counts words, and a pair of `chunks_exact` would be turned into that count again.
 pub fn words_of(bytes: &[u8], out: &mut [u16])
     ensures { out.new ≡ paste out.old 0 (words_of bytes.now) (min (length (words_of bytes.now)) (length out.old)) }
 {
-    let n = lists::smaller_of(bytes.len() / 2, out.len());
-    let mut i = 0;
-    while i < n {
+    for i in 0..out.len().min(bytes.len() / 2) {
         out[i] = joined(bytes[2 * i], bytes[2 * i + 1]);
-        i += 1;
     }
 }
 
-// A word's low byte and its high byte.
+// A word's low byte and its high byte, as the definition of the bytes has them.
 fn low(w: u16) -> u8
     ensures { result ≡ w % 256 }
 {
@@ -59,43 +58,34 @@ fn high(w: u16) -> u8
 pub fn bytes_of(words: &[u16], out: &mut [u8])
     ensures { out.new ≡ paste out.old 0 (bytes_of words.now) (2 * min (length words.now) (length out.old / 2)) }
 {
-    let n = lists::smaller_of(words.len(), out.len() / 2);
-    let mut i = 0;
-    while i < n {
+    for i in 0..words.len().min(out.len() / 2) {
         out[2 * i] = low(words[i]);
         out[2 * i + 1] = high(words[i]);
-        i += 1;
     }
 }
 
 // One digit more.
+#[tactic(auto, unfolding(crate::specs::Numbers::digit_more, lists::specs::Tests::pick))]
 fn digit_more(x: u16, b: u8) -> u16
     ensures { result ≡ digit_more x b }
 {
-    if 1000 <= x {
-        return 10000;
+    if x < 1000 && (b'0'..=b'9').contains(&b) {
+        x * 10 + u16::from(b - b'0')
+    } else {
+        10000
     }
-    if b < 48 {
-        return 10000;
-    }
-    if 57 < b {
-        return 10000;
-    }
-    x * 10 + (b - 48) as u16
 }
 
 // The number that a text is in decimal, up to 9,999; 10000 where it is none.
 pub fn number_of(text: &[u8]) -> u16
     ensures { result ≡ number_of text.now }
 {
-    if text.len() == 0 {
+    if text.is_empty() {
         return 10000;
     }
     let mut x = 0;
-    let mut i = 0;
-    while i < text.len() {
-        x = digit_more(x, text[i]);
-        i += 1;
+    for b in text {
+        x = digit_more(x, *b);
     }
     x
 }

@@ -1,7 +1,7 @@
 // What the jobs write: a variable blocks of 10,000 values, flag 01h; b of 100 values; c fixed blocks 21h, flag 00h; d filler lines,
 // flag 01h; e filler lines closed again and again, f lines full of a's blocks closed again and again; g c's blocks, those of a line in one list;
 // h variable blocks of 4 values, flag 01h, and i the same in one list; j variable blocks of 1 value, k of 10, l of 1,000, flag 01h.
-ghost use Rattle.std.specs.Prelude.{◌≡◌, ◌≤◌, length};
+ghost use Rattle.std.specs.Prelude.{◌≤◌};
 
 use line::settings::Settings;
 
@@ -40,37 +40,23 @@ pub(crate) fn settings_of(job: u8) -> Settings {
 }
 
 fn value_at(i: usize, mode: u8) -> u16 {
-    let x = (i % 65536 * 7 + 3) % 65536;
-    if mode == 8 {
-        return (x % 256) as u16;
-    }
-    (x % 512) as u16
+    let values = if mode == 8 { 256 } else { 512 };
+    ((i % 65536 * 7 + 3) % values) as u16
 }
 
 // A word of what is lent: a value; of a list type 7, length 4 and four values, again and again.
 fn word_at(job: u8, i: usize, mode: u8) -> u16 {
-    let k = i % 6;
     if !by_list(job) {
         return value_at(i, mode);
     }
-    if k == 0 {
-        return 7;
+    match i % 6 {
+        0 => 7,
+        1 => 4,
+        k => value_at(k - 2, mode),
     }
-    if k == 1 {
-        return 4;
-    }
-    value_at(k - 2, mode)
 }
 
 // The values that every block has from its first on, or the list.
-pub(crate) fn lent_in(job: u8, mode: u8) -> [u16; 10000]
-    ensures { length result ≡ 10000 }
-{
-    let mut s = [0u16; 10000];
-    let mut i = 0usize;
-    while i < 10000 {
-        s[i] = word_at(job, i, mode);
-        i += 1;
-    }
-    s
+pub(crate) fn lent_in(job: u8, mode: u8) -> [u16; 10000] {
+    std::array::from_fn(|i| word_at(job, i, mode))
 }

@@ -4,7 +4,7 @@
 
 mod jobs; // jobs.rt: what the jobs write
 mod writes; // writes.rt: lines written
-mod asked; // asked.rt: the words of the command line
+mod asked; // asked.rt: what is asked
 
 use asked::Asked;
 use std::io;
@@ -27,17 +27,15 @@ fn run(rt: &impl Print, a: Asked, batch: &mut [u16; 13728]) -> io::Result<()> {
 
 // Every job, twice.
 fn run_all(rt: &impl Print, batch: &mut [u16; 13728]) -> io::Result<()> {
-    let mut k = 0u8;
-    while k < 24 {
+    for k in 0..24 {
         run(rt, asked::nth(k), batch)?;
-        k += 1;
     }
     Ok(())
 }
 
 fn main(rt: HostRuntime) -> io::Result<()> {
     let mut batch = [0u16; 13728];
-    if asked::has_three(&rt) {
+    if arguments::has_words(&rt, 3) {
         return run(&rt, asked::by_words(&rt), &mut batch);
     }
     run_all(&rt, &mut batch)

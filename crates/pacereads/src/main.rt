@@ -3,7 +3,7 @@
 // does the same in C. With no words both are done twice, in both modes.
 #![tactic(auto)]
 
-mod asked; // asked.rt: the words of the command line
+mod asked; // asked.rt: what is asked
 mod reads; // reads.rt: lines read or checked
 
 use asked::Asked;
@@ -20,10 +20,8 @@ fn run(rt: &impl Print, a: Asked, batch: &[u16; 13728], room: &mut [u16; 16384])
 
 // Everything, twice.
 fn run_all(rt: &impl Print, batch: &[u16; 13728], room: &mut [u16; 16384]) -> io::Result<()> {
-    let mut k = 0u8;
-    while k < 4 {
+    for k in 0..4 {
         run(rt, asked::nth(k), batch, room)?;
-        k += 1;
     }
     Ok(())
 }
@@ -35,7 +33,7 @@ fn main(rt: HostRuntime) -> io::Result<()> {
     // as much as there is room for; behind the end of the input the bytes stay 0
     io::copy(&mut rt.stdin().take(27456), &mut &mut bytes[..])?;
     octets::words_of(&bytes, &mut batch);
-    if asked::has_three(&rt) {
+    if arguments::has_words(&rt, 3) {
         return run(&rt, asked::by_words(&rt), &batch, &mut room);
     }
     run_all(&rt, &batch, &mut room)

@@ -1,28 +1,13 @@
 // Lent parts filled with words. Each is lent exactly the part that it fills.
-ghost use Rattle.std.specs.Prelude.{◌≡◌, map, length};
-ghost use Rattle.words.specs.Forms.{data_word};
-ghost use Rattle.packets.specs.Gap.{value};
+ghost use Rattle.std.specs.Prelude.{◌≡◌, ℕ, map, length};
 
-// User words: the values in data form.
-pub(crate) fn put_users(values: &[u16], out: &mut [u16])
-    requires { length out.old ≡ length values.now }
-    ensures { out.new ≡ map data_word values.now }
+// What f makes of each word.
+pub(crate) fn put<F: Fn(u16) -> u16>(src: &[u16], out: &mut [u16], f: F)
+    requires callable { F.IsAlwaysCallable f }
+    requires long { length out.old ≡ length src.now }
+    ensures { (g : ℕ → ℕ) → ((w v : ℕ) → F.post f w v → v ≡ g w) → out.new ≡ map g src.now }
 {
-    let mut i = 0;
-    while i < values.len() {
-        out[i] = words::forms::data_word(values[i]);
-        i += 1;
-    }
-}
-
-// The values of user words.
-pub(crate) fn put_values(src: &[u16], out: &mut [u16])
-    requires { length out.old ≡ length src.now }
-    ensures { out.new ≡ map value src.now }
-{
-    let mut i = 0;
-    while i < src.len() {
-        out[i] = src[i] % 512;
-        i += 1;
+    for (i, w) in src.iter().enumerate() {
+        out[i] = f(*w);
     }
 }

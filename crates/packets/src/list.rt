@@ -27,12 +27,11 @@ fn list_one(gap: &[u16], out: &mut [u16])
     requires { (count_at gap.now + 7 ≤ length gap.now) × (length out.old ≡ count_at gap.now + 3) }
     ensures { out.new ≡ entry_of (packet_at gap.now) }
 {
-    let first = gap[3] % 256;
-    let next = gap[4] % 256;
     let count = gap[5] % 256;
     let end = count as usize + 6;
-    lists::copy_words(&[first, next, count], &mut out[..3]);
-    fill::put_values(&gap[6..end], &mut out[3..]);
+    let (head, values) = out.split_at_mut(3);
+    head.copy_from_slice(&[gap[3] % 256, gap[4] % 256, count]);
+    fill::put(&gap[6..end], values, |w| w % 512);
 }
 
 // No packet is listed: the line has a fault, or the list ends here, with the number of a bad packet or with none.
@@ -40,11 +39,11 @@ fn none_listed(fault: u8, stop: u8) -> Listed
     ensures { result ≡ none_listed fault stop }
 {
     Listed {
-        fault: fault,
+        fault,
         packets: 0,
         words: 0,
         gap: 0,
-        stop: stop,
+        stop,
     }
 }
 
@@ -53,15 +52,10 @@ fn list_from(gap: &[u16], out: &mut [u16]) -> Listed
     requires { length gap.now ≤ length out.old }
     ensures { outcome result out.new ≡ listed_of (list_in gap.now) out.old }
 {
-    let x = packet::look_at(gap);
-    match x {
+    match packet::look_at(gap) {
         Look::Nothing => none_listed(0, 0),
         Look::Bad(stop) => none_listed(0, stop),
-        Look::Whole {
-            did: _,
-            second: _,
-            count,
-        } => {
+        Look::Whole { count, .. } => {
             let k = count as usize + 3;
             let long = count as usize + 7;
             list_one(gap, &mut out[..k]);
@@ -82,7 +76,7 @@ pub fn gap_length(system: u8) -> usize
     ensures { result ≡ gap_length (system_of system) }
 {
     let s = systems::system_of(system);
-    lists::minus_or_zero(lists::minus_or_zero(s.length, s.payload), 61)
+    s.length.saturating_sub(s.payload).saturating_sub(61)
 }
 
 // Lists the packets in a line's gap.
@@ -93,8 +87,7 @@ pub fn list(system: u8, mode: u8, line: &[u16], out: &mut [u16]) -> Listed
     if out.len() != gap {
         return none_listed(1, 0);
     }
-    let seen = check::check(system, mode, line);
-    let fault = seen.fault;
+    let fault = check::check(system, mode, line).fault;
     if fault != 0 {
         return none_listed(fault, 0);
     }

@@ -20,10 +20,7 @@ pub enum Look {
 fn is_flag(gap: &[u16]) -> bool
     ensures { result ≡ flag_at gap.now }
 {
-    if gap.len() < 3 {
-        return false;
-    }
-    lists::same_words(&gap[0..3], &[0x000u16, 0x3ff, 0x3ff])
+    gap.starts_with(&[0x000, 0x3ff, 0x3ff])
 }
 
 // The lowest of 21, 22 and 23 that holds of the packet at the front, or 0. Nothing behind the gap is looked at.
@@ -68,11 +65,12 @@ fn lay_body(did: u8, second: u8, values: &[u16], out: &mut [u16])
     requires { length out.old ≡ length values.now + 3 }
     ensures { out.new ≡ body_words did second values.now }
 {
-    let first = forms::byte_word(did as u16);
-    let next = forms::byte_word(second as u16);
+    let first = forms::byte_word(u16::from(did));
+    let next = forms::byte_word(u16::from(second));
     let count = forms::byte_word((values.len() % 256) as u16);
-    lists::copy_words(&[first, next, count], &mut out[..3]);
-    fill::put_users(values, &mut out[3..]);
+    let (head, users) = out.split_at_mut(3);
+    head.copy_from_slice(&[first, next, count]);
+    fill::put(values, users, forms::data_word);
 }
 
 // These, and the checksum behind them.
@@ -80,28 +78,28 @@ fn lay_summed(did: u8, second: u8, values: &[u16], out: &mut [u16])
     requires { length out.old ≡ length values.now + 4 }
     ensures { out.new ≡ body_words did second values.now ++ (checksum (body_words did second values.now) ∷ []) }
 {
-    let n = values.len() + 3;
-    lay_body(did, second, values, &mut out[..n]);
-    let sum = checksum::checksum_of(&out[..n]);
-    lists::copy_words(&[sum], &mut out[n..]);
+    let (body, sum) = out.split_at_mut(values.len() + 3);
+    lay_body(did, second, values, body);
+    sum.copy_from_slice(&[checksum::checksum_of(body)]);
 }
 
 // The flag, and all behind it.
+#[tactic(auto, unfolding(crate::specs::Packet::packet_words))]
 fn lay_whole(did: u8, second: u8, values: &[u16], out: &mut [u16])
     requires { length out.old ≡ length values.now + 7 }
     ensures { out.new ≡ packet_words did second values.now }
 {
-    lists::copy_words(&[0x000u16, 0x3ff, 0x3ff], &mut out[..3]);
-    lay_summed(did, second, values, &mut out[3..]);
+    let (flag, rest) = out.split_at_mut(3);
+    flag.copy_from_slice(&[0x000, 0x3ff, 0x3ff]);
+    lay_summed(did, second, values, rest);
 }
 
 // Lays a packet into a part that is exactly as long as its words are; into any other part it lays nothing.
+#[tactic(auto, unfolding(lists::specs::Tests::pick))]
 pub fn lay(did: u8, second: u8, values: &[u16], out: &mut [u16])
     ensures { out.new ≡ laid_in did second values.now out.old }
 {
-    if 7 <= out.len() {
-        if out.len() - 7 == values.len() {
-            lay_whole(did, second, values, out);
-        }
+    if 7 <= out.len() && out.len() - 7 == values.len() {
+        lay_whole(did, second, values, out);
     }
 }

@@ -17,15 +17,13 @@ fn main(rt: HostRuntime) -> io::Result<()> {
     let mut room = [0u16; 16384];
     let mut values = [0u16; 2304];
     let mut step = [0u16; 8];
-    let mut turns = u64::MAX;
-    while turns > 0 {
+    for _ in 0..u64::MAX {
         steps::read(&mut input, &mut step)?;
         if step[0] == 0 {
-            return Ok(());
+            break;
         }
         w = writes::write(&rt, &mut input, &step, w, &mut line, &mut values)?;
         r = hears::hear(&rt, &step, r, &line, &mut room)?;
-        turns -= 1;
     }
     Ok(())
 }

@@ -11,23 +11,22 @@ use writer::{adding, state};
 
 fn number_of(a: Answer) -> u64 {
     match a {
-        Answer::Refused(n) => n as u64,
+        Answer::Refused(n) => u64::from(n),
         Answer::Done => 0,
     }
 }
 
 fn number_laid(a: Laid) -> u64 {
     match a {
-        Laid::Refused(n) => n as u64,
+        Laid::Refused(n) => u64::from(n),
         Laid::Finished => 0,
         Laid::Unfinished => 100,
     }
 }
 
-fn put_row(rt: &impl Print, name: &[u8], answer: u64, line: &[u16]) -> io::Result<()> {
+fn put_row(rt: &impl Print, name: &str, answer: u64, line: &[u16]) -> io::Result<()> {
     let register = crc::crc_of(crc::CRC_START, line);
-    rt.write_all(name)?;
-    println!(rt; "{answer} {register}")
+    println!(rt; "{name} {answer} {register}")
 }
 
 // Code, AAI, block type and flag of a step; both addresses and the reserved words are 0.
@@ -48,10 +47,8 @@ fn open_line(rt: &impl Print, step: &[u16; 8], w: Writer, line: &mut [u16]) -> i
     let f = step[3] % 2 == 1;
     let v = step[3] / 2 % 2 == 1;
     let r = opening::open_line(w, f, v, step[2], settings_of(step), line);
-    let answer = r.answer;
-    let next = r.state;
-    put_row(rt, b"opened ", number_of(answer), line)?;
-    Ok(next)
+    put_row(rt, "opened", number_of(r.answer), line)?;
+    Ok(r.state)
 }
 
 // 3, the line's length, the type, how many values; then the values: row `added`.
@@ -63,29 +60,25 @@ fn add_block(
     line: &mut [u16],
     values: &mut [u16],
 ) -> io::Result<Writer> {
-    let n = steps::within(steps::wide(step[3]), values.len());
-    steps::read(input, &mut values[0..n])?;
-    let r = adding::add_block(w, step[2], &values[0..n], line);
-    let answer = r.answer;
-    let next = r.state;
-    put_row(rt, b"added ", number_laid(answer), line)?;
-    Ok(next)
+    let n = usize::from(step[3]).min(values.len());
+    let given = &mut values[..n];
+    steps::read(input, given)?;
+    let r = adding::add_block(w, step[2], given, line);
+    put_row(rt, "added", number_laid(r.answer), line)?;
+    Ok(r.state)
 }
 
 // 4 and the line's length: row `closed`.
 fn close_line(rt: &impl Print, w: Writer, line: &mut [u16]) -> io::Result<Writer> {
     let r = closing::close_line(w, line);
-    let answer = r.answer;
-    let next = r.state;
-    put_row(rt, b"closed ", number_of(answer), line)?;
-    Ok(next)
+    put_row(rt, "closed", number_of(r.answer), line)?;
+    Ok(r.state)
 }
 
 // 6, a place in the line and a word.
 fn put_word(at: u16, word: u16, line: &mut [u16]) {
-    let i = at as usize;
-    if i < line.len() {
-        line[i] = word;
+    if let Some(w) = line.get_mut(usize::from(at)) {
+        *w = word;
     }
 }
 
@@ -98,13 +91,12 @@ pub(crate) fn write(
     line: &mut [u16],
     values: &mut [u16],
 ) -> io::Result<Writer> {
-    let n = steps::within(steps::wide(step[1]), line.len());
-    let name = step[0];
-    match name {
+    let n = usize::from(step[1]).min(line.len());
+    match step[0] {
         1 => Ok(state::fresh_writer((step[1] % 256) as u8, (step[2] % 256) as u8)),
-        2 => open_line(rt, step, w, &mut line[0..n]),
-        3 => add_block(rt, input, step, w, &mut line[0..n], values),
-        4 => close_line(rt, w, &mut line[0..n]),
+        2 => open_line(rt, step, w, &mut line[..n]),
+        3 => add_block(rt, input, step, w, &mut line[..n], values),
+        4 => close_line(rt, w, &mut line[..n]),
         6 => {
             put_word(step[1], step[2], line);
             Ok(w)

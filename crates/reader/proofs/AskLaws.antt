@@ -4,7 +4,7 @@ use mathlib.Core.Path.{◌≡◌, refl, sym, ap, ◌∙◌}
 use mathlib.Core.Bool.{Bool, true, false}
 use Prim.Native.Nat.{ℕ}
 use lib.Dec.{eqb}
-use borrow.Author.Tests.{eq-eqb, ne_eqb, eqb-true}
+use borrow.Author.Tests.{eq-eqb, eqb-true}
 use Rattle.lists.specs.Tests.{pick}
 use Rattle.lists.proofs.Tests.{pick_true, pick_false}
 use Rattle.line.specs.Systems.{system_of}
@@ -23,11 +23,6 @@ module _ (c : ℕ) (st : Reader) (long room : ℕ) where
       go : (n : ℕ) (b : Bool) → eqb n 0 ≡ b → (pick b (cleared st) (barred n)).fault ≡ n
       go n true e = ap (λ (x : Asked). x.fault) (pick_true (cleared st) (barred n) refl) ∙ sym (eqb-true n 0 e)
       go n false e = ap (λ (x : Asked). x.fault) (pick_false (cleared st) (barred n) refl)
-
-  -- 1 or 2
-  pub asks_barred : (n : ℕ) → (n ≡ 0 → ⊥) → n ≡ read_fault_in c st long room → barred n ≡ asked c st long room
-  unfolding asked
-  asks_barred n h e = ap barred e ∙ sym (pick_false _ _ (ap (λ (m : ℕ). eqb m 0) (sym e) ∙ ne_eqb n 0 h))
 
   -- neither
   pub asks_cleared : 0 ≡ read_fault_in c st long room → cleared st ≡ asked c st long room

@@ -1,5 +1,6 @@
 -- The laws of a reading call with a room of 16,384 words. Every fixed block fits it; nothing else is asked of the number.
 -- Assumes nothing.
+use Rattle.std.specs.Prelude.{Option, Some, None}
 use mathlib.Core.Path.{◌≡◌}
 use mathlib.Core.Bool.{Bool, true, false}
 use mathlib.Core.List.{List}
@@ -10,8 +11,6 @@ use lib.ListN.{length}
 use Rattle.line.specs.Systems.{system_of}
 use Rattle.line.specs.Layout.{area_length}
 use Rattle.line.specs.Check.{number_of, settings_of, line_fault}
-use Rattle.course.specs.declared.Place.{Place}
-use Rattle.course.specs.declared.Place.TheVariants.{Shut, At}
 use Rattle.course.specs.Course.{impossible_after}
 use Rattle.machine.specs.Phases.{is_busy}
 use Rattle.reader.specs.declared.state.Reader.{Reader}
@@ -43,18 +42,18 @@ pub course_of : (st : Reader) → impossible st ≡ false → impossible_after s
 course_of = readiness.course_of capacity
 
 -- ---- a line begun or refused
-pub by_place : (st : Reader) (line room : List ℕ) (p : Place) → read_fault st (length line) (length room) ≡ 0 → st.place ≡ p → reading st line room ≡ read_from p st line room
+pub by_place : (st : Reader) (line room : List ℕ) (p : Option ℕ) → read_fault st (length line) (length room) ≡ 0 → st.place ≡ p → reading st line room ≡ read_from p st line room
 by_place = accepting.by_place capacity
 
-pub accepts : (st : Reader) (line room : List ℕ) → read_fault st (length line) (length room) ≡ 0 → st.place ≡ Shut → line_fault st.system st.mode line ≡ 0
+pub accepts : (st : Reader) (line room : List ℕ) → read_fault st (length line) (length room) ≡ 0 → st.place ≡ None → line_fault st.system st.mode line ≡ 0
     → reading st line room ≡ reply (begun st (number_of line) (settings_of line)) room
 accepts = accepting.accepts capacity
 
-pub refuses : (st : Reader) (line room : List ℕ) → read_fault st (length line) (length room) ≡ 0 → st.place ≡ Shut → (n : ℕ) → line_fault st.system st.mode line ≡ n
+pub refuses : (st : Reader) (line room : List ℕ) → read_fault st (length line) (length room) ≡ 0 → st.place ≡ None → (n : ℕ) → line_fault st.system st.mode line ≡ n
     → (n ≡ 0 → ⊥) → reading st line room ≡ reply (refused st n) room
 refuses = accepting.refuses capacity
 
-pub accepted_exactly : (st : Reader) (line room : List ℕ) → read_fault st (length line) (length room) ≡ 0 → st.place ≡ Shut
+pub accepted_exactly : (st : Reader) (line room : List ℕ) → read_fault st (length line) (length room) ≡ 0 → st.place ≡ None
     → is_begun_event (reading st line room).told.event ≡ eqb (line_fault st.system st.mode line) 0
 accepted_exactly = accepting.accepted_exactly capacity
 
@@ -72,19 +71,19 @@ pub fresh_never_2 : (system mode : ℕ) (st : Reader) → staying.Reached capaci
 fresh_never_2 = staying.fresh_never_2 capacity
 
 -- ---- a line ends
-pub call_moves : (st : Reader) (q : ℕ) (line room : List ℕ) → read_fault st (length line) (length room) ≡ 0 → st.place ≡ At q
+pub call_moves : (st : Reader) (q : ℕ) (line room : List ℕ) → read_fault st (length line) (length room) ≡ 0 → st.place ≡ Some q
     → ending.Moves capacity st q line room (reading st line room)
 call_moves = ending.call_moves capacity enough
 
-pub rest_ends : (st : Reader) (q : ℕ) (line room : List ℕ) → read_fault st (length line) (length room) ≡ 0 → st.place ≡ At q
+pub rest_ends : (st : Reader) (q : ℕ) (line room : List ℕ) → read_fault st (length line) (length room) ≡ 0 → st.place ≡ Some q
     → ends_within (ending.end_in st - q + 1) st line room ≡ true
 rest_ends = ending.rest_ends capacity enough
 
-pub line_ends : (st : Reader) (line room : List ℕ) → st.place ≡ Shut
+pub line_ends : (st : Reader) (line room : List ℕ) → st.place ≡ None
     → ends_within (area_length (system_of st.system).payload (settings_of line).flag + 2) st line room ≡ true
 line_ends = ending.line_ends capacity enough
 
-pub payload_ends : (st : Reader) (line room : List ℕ) → st.place ≡ Shut → ends_within ((system_of st.system).payload + 2) st line room ≡ true
+pub payload_ends : (st : Reader) (line room : List ℕ) → st.place ≡ None → ends_within ((system_of st.system).payload + 2) st line room ≡ true
 payload_ends = ending.payload_ends capacity enough
 
 -- ---- a call under an allowance

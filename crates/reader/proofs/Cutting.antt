@@ -1,5 +1,6 @@
 -- The walk under an allowance: it meets what the walk without one meets; or that walk goes no further; or it goes on from where this one stopped.
 -- Assumes nothing.
+use Rattle.std.specs.Prelude.{Some}
 use mathlib.Core.Path.{◌≡◌, refl, sym, ap, ap₂, ◌∙◌, subst}
 use mathlib.Core.Bool.{Bool, true, false}
 use mathlib.Core.List.{List, ◌++◌}
@@ -13,7 +14,6 @@ use Rattle.lists.specs.Tests.{pick}
 use Rattle.lists.proofs.Tests.{pick_true, pick_false, lt_or_le}
 use Rattle.line.specs.Systems.{system_of}
 use Rattle.line.specs.Fixed.{is_variable, places_of, size_of}
-use Rattle.course.specs.declared.Place.TheVariants.{At}
 use Rattle.course.specs.Course.{blocks_end, misplaced}
 use Rattle.course.proofs.CourseLaws.{grid_left, grid_next, grid_room, grid_count, grid_some}
 use Rattle.machine.specs.declared.phase.Phase.{Phase}
@@ -48,7 +48,7 @@ left_of st q = places_of (system_of st.system).payload st.settings.block - q / s
 whole_rest : (s n w : ℕ) → 1 ≤ s → w / s ≡ n → w < suc n * s
 whole_rest s n w one e = omega (arith, mod-add-div' w s, mod-lt w one, ap (λ (k : ℕ). k * s) e, suc-mul n s)
 
-pub grid_end : (p block flag q : ℕ) → is_variable block ≡ false → misplaced p block flag (At q) ≡ false
+pub grid_end : (p block flag q : ℕ) → is_variable block ≡ false → misplaced p block flag (Some q) ≡ false
     → q + (places_of p block - q / size_of block) * size_of block ≡ blocks_end p block flag
 grid_end p block flag q v e =
     let n = places_of p block - q / size_of block in
@@ -62,7 +62,7 @@ grid_end p block flag q v e =
 -- ---- a walk that was cut
 -- where the reader stands behind a walk from place q
 abbrev pub stands : Reader → ℕ → Walk → Reader
-stands st q x = becomes st st.last st.settings (At (q + x.answer.taken)) x.answer.phase
+stands st q x = becomes st st.last st.settings (Some (q + x.answer.taken)) x.answer.phase
 
 pub record Cuts (c a : ℕ) (st : Reader) (q : ℕ) (line room : List ℕ) (x : Walk) : Type 0 where
   pub count : ℕ
@@ -90,7 +90,7 @@ words_same : (st : Reader) (q i : ℕ) (x : Walk) (line : List ℕ) → words_fr
 unfolding words_from
 words_same st q i x line = refl
 
-module _ {c : ℕ} (a : ℕ) (st : Reader) (q : ℕ) (line room : List ℕ) (at : st.place ≡ At q) (r : ReadyIn c st line room) where
+module _ {c : ℕ} (a : ℕ) (st : Reader) (q : ℕ) (line room : List ℕ) (at : st.place ≡ Some q) (r : ReadyIn c st line room) where
   abbrev block : ℕ
   block = st.settings.block
 

@@ -1,5 +1,6 @@
 -- A line comes to its end: each call on a begun line reports the end or moves on in the area, so a line of area A ends within A + 2 calls.
 -- Assumes nothing.
+use Rattle.std.specs.Prelude.{Some, None}
 use mathlib.Core.Path.{◌≡◌, refl, sym, ap, ap₂, ◌∙◌, subst}
 use mathlib.Core.Bool.{Bool, true, false, ◌||◌, not}
 use mathlib.Core.List.{List}
@@ -17,7 +18,6 @@ use Rattle.line.specs.Fixed.{is_variable, places_of, size_of}
 use Rattle.line.specs.Layout.{area_length}
 use Rattle.line.specs.Check.{number_of, settings_of, fits_length, fits, line_fault}
 use Rattle.line.proofs.AreaLaws.{area_most}
-use Rattle.course.specs.declared.Place.TheVariants.{Shut, At}
 use Rattle.course.specs.Course.{blocks_end}
 use Rattle.course.proofs.CourseLaws.{end_in_area, grid_left}
 use Rattle.machine.specs.declared.phase.Phase.{Phase}
@@ -51,7 +51,7 @@ record Walks (q end : ℕ) (room : List ℕ) (x : Walk) : Type 0 where
   at_most : q + x.answer.taken ≤ end
   at_least : is_nothing x.answer.met ≡ false → 1 ≤ x.answer.taken
 
-module _ (c : ℕ) (wide : 1920 ≤ c) (st : Reader) (q : ℕ) (line room : List ℕ) (at : st.place ≡ At q) (r : ReadyIn c st line room) where
+module _ (c : ℕ) (wide : 1920 ≤ c) (st : Reader) (q : ℕ) (line room : List ℕ) (at : st.place ≡ Some q) (r : ReadyIn c st line room) where
   abbrev block : ℕ
   block = st.settings.block
 
@@ -90,12 +90,12 @@ module _ (c : ℕ) (wide : 1920 ≤ c) (st : Reader) (q : ℕ) (line room : List
 -- the line's end, or a place further on
 pub record Ended (x : Reply) : Type 0 where
   pub event : x.told.event ≡ End
-  pub place : x.told.state.place ≡ Shut
+  pub place : x.told.state.place ≡ None
 
 pub record Further (q end : ℕ) (x : Reply) : Type 0 where
   pub next : ℕ
   pub event : is_last x.told.event ≡ false
-  pub place : x.told.state.place ≡ At next
+  pub place : x.told.state.place ≡ Some next
   pub beyond : q < next
   pub within : next ≤ end
 
@@ -139,11 +139,11 @@ fit_again c st line room fit s =
     unfaulted (reading_in c st line room).told.state line (reading_in c st line room).room
     (record { fit = ap₂ (λ (i j : ℕ). fits i j line) s.system s.mode ∙ r.fit; long = s.room_long ∙ r.long; state = read_possible c st line room r.state })
 
-pub call_moves : (c : ℕ) → 1920 ≤ c → (st : Reader) (q : ℕ) (line room : List ℕ) → read_fault_in c st (length line) (length room) ≡ 0 → st.place ≡ At q → Moves c st q line room (reading_in c st line room)
+pub call_moves : (c : ℕ) → 1920 ≤ c → (st : Reader) (q : ℕ) (line room : List ℕ) → read_fault_in c st (length line) (length room) ≡ 0 → st.place ≡ Some q → Moves c st q line room (reading_in c st line room)
 call_moves c wide st q line room fit at =
     let w = walks c wide st q line room at (ready c st line room fit) in
     let x = walk_from st q line room in
-    let s = subst (Stands st q (end_in st) room) (sym (by_place c st line room (At q) fit at))
+    let s = subst (Stands st q (end_in st) room) (sym (by_place c st line room (Some q) fit at))
     (stands_by st q (end_in st) x.answer.taken x.answer.phase x.answer.met room x.room w.room_long w.at_most w.at_least) in
     record { stands = s; fit = fit_again c st line room fit s.same }
 
@@ -163,7 +163,7 @@ nearer c st q n line room m f h =
     ap₂ (λ (k : ℕ) (t : Settings). blocks_end (system_of k).payload t.block t.flag) m.stands.same.system m.stands.settings in
     omega (arith, same, f.beyond, f.within)
 
-ends_by : (c : ℕ) → 1920 ≤ c → (n : ℕ) (st : Reader) (q : ℕ) (line room : List ℕ) → read_fault_in c st (length line) (length room) ≡ 0 → st.place ≡ At q → end_in st - q < n → ends_within_in c n st line room ≡ true
+ends_by : (c : ℕ) → 1920 ≤ c → (n : ℕ) (st : Reader) (q : ℕ) (line room : List ℕ) → read_fault_in c st (length line) (length room) ≡ 0 → st.place ≡ Some q → end_in st - q < n → ends_within_in c n st line room ≡ true
 ends_by c wide zero st q line room fit at h = absurd (omega arith)
 ends_by c wide (suc n) st q line room fit at h =
     let x = reading_in c st line room in
@@ -172,7 +172,7 @@ ends_by c wide (suc n) st q line room fit at h =
     (λ (f : Further q (end_in st) (reading_in c st line room)). later_ends c n st line room (ends_by c wide n x.told.state f.next line x.room m.fit f.place (nearer c st q n line room m f h)))
     m.stands.moved
 
-pub rest_ends : (c : ℕ) → 1920 ≤ c → (st : Reader) (q : ℕ) (line room : List ℕ) → read_fault_in c st (length line) (length room) ≡ 0 → st.place ≡ At q → ends_within_in c (end_in st - q + 1) st line room ≡ true
+pub rest_ends : (c : ℕ) → 1920 ≤ c → (st : Reader) (q : ℕ) (line room : List ℕ) → read_fault_in c st (length line) (length room) ≡ 0 → st.place ≡ Some q → ends_within_in c (end_in st - q + 1) st line room ≡ true
 rest_ends c wide st q line room fit at = ends_by c wide (end_in st - q + 1) st q line room fit at (omega arith)
 
 -- ---- a whole line
@@ -180,20 +180,20 @@ rest_ends c wide st q line room fit at = ends_by c wide (end_in st - q + 1) st q
 pub record Starts (st : Reader) (line room : List ℕ) (x : Reply) : Type 0 where
   pub same : Same st room x
   pub settings : x.told.state.settings ≡ settings_of line
-  pub place : x.told.state.place ≡ At 0
+  pub place : x.told.state.place ≡ Some 0
 
 pub begun_starts : (st : Reader) (line room : List ℕ) → Starts st line room (reply (begun st (number_of line) (settings_of line)) room)
 unfolding begun
 begun_starts st line room = record { same = record { system = refl; mode = refl; room_long = refl }; settings = refl; place = refl }
 
 -- blocks end in the area
-pub in_area : (c : ℕ) (st : Reader) (q : ℕ) (line room : List ℕ) → read_fault_in c st (length line) (length room) ≡ 0 → st.place ≡ At q → end_in st ≤ area_length (system_of st.system).payload st.settings.flag
+pub in_area : (c : ℕ) (st : Reader) (q : ℕ) (line room : List ℕ) → read_fault_in c st (length line) (length room) ≡ 0 → st.place ≡ Some q → end_in st ≤ area_length (system_of st.system).payload st.settings.flag
 unfolding fits_length
 in_area c st q line room fit at =
     let r = ready c st line room fit in
     end_in_area st.system st.settings (both_true (is_system st.system) _ r.fit).0 (eqb-true _ 0 (not-false _ (at_q st q line room at r).clean))
 
-module _ (c : ℕ) (wide : 1920 ≤ c) (st : Reader) (line room : List ℕ) (at : st.place ≡ Shut) where
+module _ (c : ℕ) (wide : 1920 ≤ c) (st : Reader) (line room : List ℕ) (at : st.place ≡ None) where
   abbrev area : ℕ
   area = area_length (system_of st.system).payload (settings_of line).flag
 
@@ -219,7 +219,7 @@ module _ (c : ℕ) (wide : 1920 ≤ c) (st : Reader) (line room : List ℕ) (at 
   any_ends true e = fit_ends (eqb-true _ 0 e) _ refl
   any_ends false e = last_ends c (suc area) st line room _ (pick_false _ _ e) refl
 
-pub line_ends : (c : ℕ) → 1920 ≤ c → (st : Reader) (line room : List ℕ) → st.place ≡ Shut
+pub line_ends : (c : ℕ) → 1920 ≤ c → (st : Reader) (line room : List ℕ) → st.place ≡ None
     → ends_within_in c (area_length (system_of st.system).payload (settings_of line).flag + 2) st line room ≡ true
 line_ends c wide st line room at =
     let a = area_length (system_of st.system).payload (settings_of line).flag in
@@ -240,7 +240,7 @@ ends_more c (suc n) (suc m) st line room h e = go (is_last (reading_in c st line
     go false k e = k e
 
 -- no line needs more than P + 2
-pub payload_ends : (c : ℕ) → 1920 ≤ c → (st : Reader) (line room : List ℕ) → st.place ≡ Shut → ends_within_in c ((system_of st.system).payload + 2) st line room ≡ true
+pub payload_ends : (c : ℕ) → 1920 ≤ c → (st : Reader) (line room : List ℕ) → st.place ≡ None → ends_within_in c ((system_of st.system).payload + 2) st line room ≡ true
 payload_ends c wide st line room at =
     let p = (system_of st.system).payload in
     let flag = (settings_of line).flag in

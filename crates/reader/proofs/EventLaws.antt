@@ -1,28 +1,27 @@
 -- 01's numbers of a jump say which jump it is, and those of an event which event.
 -- Assumes nothing.
+use Rattle.std.specs.Prelude.{Option, Some, None}
 use mathlib.Core.Path.{◌≡◌, refl, sym, ap, ◌∙◌}
 use mathlib.Core.Bool.{Bool, true, false}
 use mathlib.Core.List.{List, [], ◌∷◌}
 use Prim.Native.Nat.{zero, suc}
 use lib.IntN.{ℤ, pos, negsuc, nat_abs}
-use Rattle.reader.specs.declared.jump.Jump.{Jump}
-use Rattle.reader.specs.declared.jump.Jump.TheVariants.{Unknown as NotKnown, Known}
 use Rattle.reader.specs.declared.state.Event.{Event}
 use Rattle.reader.specs.declared.state.Event.TheVariants.{Refused, Begun, Block, Drop, End}
 use Rattle.reader.specs.Jump.{jump_numbers}
 use Rattle.reader.specs.Events.{yes_no, event_numbers}
 
 -- ---- the jump that numbers spell
-jump_back : List ℤ → Jump
-jump_back [] = NotKnown
-jump_back (z ∷ l) = Known z
+jump_back : List ℤ → Option ℤ
+jump_back [] = None
+jump_back (z ∷ l) = Some z
 
-jump_back_lem : (x : Jump) → jump_back (jump_numbers x) ≡ x
+jump_back_lem : (x : Option ℤ) → jump_back (jump_numbers x) ≡ x
 unfolding jump_back
-jump_back_lem NotKnown = refl
-jump_back_lem (Known z) = refl
+jump_back_lem None = refl
+jump_back_lem (Some z) = refl
 
-pub jump_injective : (x y : Jump) → jump_numbers x ≡ jump_numbers y → x ≡ y
+pub jump_injective : (x y : Option ℤ) → jump_numbers x ≡ jump_numbers y → x ≡ y
 jump_injective x y e = sym (jump_back_lem x) ∙ ap jump_back e ∙ jump_back_lem y
 
 -- ---- the event that numbers spell
@@ -67,7 +66,7 @@ event_back (pos (suc (suc (suc (suc n)))) ∷ l) = End
 event_back_lem : (x : Event) → event_back (event_numbers x) ≡ x
 unfolding event_back refused_by begun_by block_by drop_by
 event_back_lem (Refused n dropped) = ap (Refused n) (yes_back dropped)
-event_back_lem (Begun n jump dropped) = ap (λ (x : Jump). Begun n x (is_yes (yes_no dropped))) (jump_back_lem jump) ∙ ap (Begun n jump) (yes_back dropped)
+event_back_lem (Begun n jump dropped) = ap (λ (x : Option ℤ). Begun n x (is_yes (yes_no dropped))) (jump_back_lem jump) ∙ ap (Begun n jump) (yes_back dropped)
 event_back_lem (Block k n) = refl
 event_back_lem (Drop n) = refl
 event_back_lem End = refl

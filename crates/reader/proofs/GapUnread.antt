@@ -1,5 +1,6 @@
 -- The reader doesn't look at the gap: lines that agree outside it are read alike, by every call, in every state and with every room.
 -- Assumes nothing.
+use Rattle.std.specs.Prelude.{Option, Some, None}
 use mathlib.Core.Path.{◌≡◌, ap, ap₂}
 use mathlib.Core.Bool.{false}
 use mathlib.Core.List.{List}
@@ -13,8 +14,6 @@ use Rattle.line.specs.Systems.{system_of}
 use Rattle.line.specs.Fixed.{is_variable, places_of, size_of}
 use Rattle.line.specs.Layout.{payload_at}
 use Rattle.line.proofs.GapLaws.{Alike, behind_alike, gap_unseen}
-use Rattle.course.specs.declared.Place.{Place}
-use Rattle.course.specs.declared.Place.TheVariants.{Shut, At}
 use Rattle.course.specs.Course.{blocks_end}
 use Rattle.machine.specs.Walk.{walk_of}
 use Rattle.machine.specs.Places.{places_in, walk_places}
@@ -30,10 +29,10 @@ module _ (st : Reader) (l m room : List ℕ) (a : Alike (system_of st.system) l 
       let row = system_of st.system in
       ap (take (blocks_end row.payload st.settings.block st.settings.flag - q)) (behind_alike row l m a (payload_at row + q) (omega arith))
 
-  from_alike : (p : Place) → read_from p st l room ≡ read_from p st m room
+  from_alike : (p : Option ℕ) → read_from p st l room ≡ read_from p st m room
   unfolding walk_from
-  from_alike Shut = ap (λ (c : Checked). reply (starts st c) room) (gap_unseen st.system st.mode l m a).1
-  from_alike (At q) =
+  from_alike None = ap (λ (c : Checked). reply (starts st c) room) (gap_unseen st.system st.mode l m a).1
+  from_alike (Some q) =
       let size = size_of st.settings.block in
       let left = places_of (system_of st.system).payload st.settings.block - q / size in
       ap

@@ -1,6 +1,7 @@
 -- The jump: it is 0 exactly where the line is the next one, whatever the numbers; of numbers 1..N it is within half a frame, and the difference
 -- but for one frame. Said once, over N and half of it.
 -- Assumes nothing.
+use Rattle.std.specs.Prelude.{Option, Some, None}
 use mathlib.Core.Path.{◌≡◌, refl, sym, ap, subst, ◌∙◌}
 use mathlib.Core.Bool.{Bool, true, false, ◌||◌, not, cond}
 use mathlib.Core.Logic.{◌⊎◌, inl, inr}
@@ -12,12 +13,9 @@ use lib.IntN.{ℤ, pos, negsuc, neg_ℤ, nat_abs, sub_ℕ, ◌+ℤ◌, ◌-ℤ�
 use borrow.Author.Tests.{lt-ltb, le-ltb, ltb-true, ltb-false, lt-leb, leb-true, leb-false, eqb-true, eqb-false, eq-eqb, ne_eqb}
 use Rattle.lists.specs.Tests.{pick}
 use Rattle.lists.proofs.Tests.{pick_true, pick_false}
-use Rattle.course.specs.declared.Last.TheVariants.{Number}
 use Rattle.line.specs.Systems.{system_of}
 use Rattle.line.proofs.SystemLaws.{odd_lines}
 use Rattle.course.specs.Course.{next_number}
-use Rattle.reader.specs.declared.jump.Jump.{Jump}
-use Rattle.reader.specs.declared.jump.Jump.TheVariants.{Unknown as NotKnown, Known}
 use Rattle.reader.specs.Jump.{stays, folded, jump_from, is_zero}
 
 -- ---- d behind, or d ahead
@@ -30,7 +28,7 @@ apart_size true zero = refl
 apart_size true (suc d) = refl
 apart_size false d = refl
 
-apart_zero : (b : Bool) (d : ℕ) → is_zero (Known (apart b d)) ≡ eqb d 0
+apart_zero : (b : Bool) (d : ℕ) → is_zero (Some (apart b d)) ≡ eqb d 0
 unfolding pick
 apart_zero true zero = refl
 apart_zero true (suc d) = sym (eqb-suc-zero d)
@@ -97,14 +95,14 @@ rest_off (suc n) true (suc d) l k e = inr (e ∙ sym (sub_ahead (suc n) (suc d) 
 rest_off (suc n) false (suc d) l k e = inl (e ∙ sym (sub_behind (suc d) (suc n) k))
 
 -- ---- the fold is 0 exactly where the difference is
-pub fold_zero : (lines : ℕ) (b : Bool) (d : ℕ) → is_zero (Known (folded lines (apart b d))) ≡ eqb d 0
+pub fold_zero : (lines : ℕ) (b : Bool) (d : ℕ) → is_zero (Some (folded lines (apart b d))) ≡ eqb d 0
 fold_zero lines b d = go (stays lines d) refl
   where
-    go : (t : Bool) → stays lines d ≡ t → is_zero (Known (folded lines (apart b d))) ≡ eqb d 0
-    go true e = ap (λ (z : ℤ). is_zero (Known z)) (fold_near lines b d e) ∙ apart_zero b d
+    go : (t : Bool) → stays lines d ≡ t → is_zero (Some (folded lines (apart b d))) ≡ eqb d 0
+    go true e = ap (λ (z : ℤ). is_zero (Some z)) (fold_near lines b d e) ∙ apart_zero b d
     go false e =
         let q = moves lines d e in
-        ap (λ (z : ℤ). is_zero (Known z)) (fold_far lines b d e) ∙ apart_zero (not b) (lines - d) ∙ ne_eqb (lines - d) 0 (λ p. omega arith) ∙ sym (ne_eqb d 0 (λ p. omega arith))
+        ap (λ (z : ℤ). is_zero (Some z)) (fold_far lines b d e) ∙ apart_zero (not b) (lines - d) ∙ ne_eqb (lines - d) 0 (λ p. omega arith) ∙ sym (ne_eqb d 0 (λ p. omega arith))
 
 -- ---- the fold of less than a frame
 -- h is half of a frame that has an odd number of lines
@@ -141,31 +139,31 @@ gap_zero a b l = go (eqb a b) refl
 
 -- ---- the jump
 -- 0 exactly where the line is the next one: whatever N, the last number and the line's number are
-less_zero : (lines number e : ℕ) → is_zero (Known (folded lines (sub_ℕ number e))) ≡ eqb number e
+less_zero : (lines number e : ℕ) → is_zero (Some (folded lines (sub_ℕ number e))) ≡ eqb number e
 less_zero lines number e = go (ltb number e) refl
   where
-    go : (t : Bool) → ltb number e ≡ t → is_zero (Known (folded lines (sub_ℕ number e))) ≡ eqb number e
+    go : (t : Bool) → ltb number e ≡ t → is_zero (Some (folded lines (sub_ℕ number e))) ≡ eqb number e
     go true q =
         let k = ltb-true number e q in
-        ap (λ (z : ℤ). is_zero (Known (folded lines z))) (sub_behind number e k) ∙ fold_zero lines true (e - number)
+        ap (λ (z : ℤ). is_zero (Some (folded lines z))) (sub_behind number e k) ∙ fold_zero lines true (e - number)
         ∙ ne_eqb (e - number) 0 (λ p. omega arith) ∙ sym (ne_eqb number e (λ p. omega arith))
     go false q =
         let k = ltb-false number e q in
-        ap (λ (z : ℤ). is_zero (Known (folded lines z))) (sub_ahead number e k) ∙ fold_zero lines false (number - e)
+        ap (λ (z : ℤ). is_zero (Some (folded lines z))) (sub_ahead number e k) ∙ fold_zero lines false (number - e)
         ∙ gap_zero number e k
 
-pub jump_zero : (lines x number : ℕ) → is_zero (jump_from lines (Number x) number) ≡ eqb number (next_number lines x)
+pub jump_zero : (lines x number : ℕ) → is_zero (jump_from lines (Some x) number) ≡ eqb number (next_number lines x)
 jump_zero lines x number = less_zero lines number (next_number lines x)
 
 -- known, and no more than h ahead or behind
-abbrev pub Within : ℕ → Jump → Type 0
-Within h NotKnown = ⊥
-Within h (Known z) = nat_abs z ≤ h
+abbrev pub Within : ℕ → Option ℤ → Type 0
+Within h None = ⊥
+Within h (Some z) = nat_abs z ≤ h
 
 -- known, and w but for N
-abbrev pub FoldOf : ℕ → ℤ → Jump → Type 0
-FoldOf lines w NotKnown = ⊥
-FoldOf lines w (Known z) = OffBy lines w z
+abbrev pub FoldOf : ℕ → ℤ → Option ℤ → Type 0
+FoldOf lines w None = ⊥
+FoldOf lines w (Some z) = OffBy lines w z
 
 module _ (lines h : ℕ) (odd : lines ≡ 2 * h + 1) (number : ℕ) (one : 1 ≤ number) (last : number ≤ lines) where
   -- what holds of every distance below a frame holds of a number less an expected one
@@ -178,13 +176,13 @@ module _ (lines h : ℕ) (odd : lines ≡ 2 * h + 1) (number : ℕ) (one : 1 ≤
 
   module _ (x : ℕ) (least : 1 ≤ x) (most : x ≤ lines) where
     -- within half a frame
-    pub jump_range : Within h (jump_from lines (Number x) number)
+    pub jump_range : Within h (jump_from lines (Some x) number)
     jump_range =
         let w = next_within lines x least most in
         by_distance (λ (z : ℤ). nat_abs (folded lines z) ≤ h) (fold_range lines h odd) (next_number lines x) w.0 w.1
 
     -- line number less expected number, folded by N
-    pub jump_by_lines : FoldOf lines (sub_ℕ number (next_number lines x)) (jump_from lines (Number x) number)
+    pub jump_by_lines : FoldOf lines (sub_ℕ number (next_number lines x)) (jump_from lines (Some x) number)
     jump_by_lines =
         let w = next_within lines x least most in
         by_distance (λ (z : ℤ). OffBy lines z (folded lines z)) (fold_off lines h odd) (next_number lines x) w.0 w.1
@@ -197,8 +195,8 @@ module _ (system number x : ℕ) (one : 1 ≤ number) (last : number ≤ (system
   lines_odd : (system_of system).lines ≡ 2 * ((system_of system).lines / 2) + 1
   lines_odd = odd_lines system (omega arith)
 
-  pub system_jump_zero : is_zero (jump_from (system_of system).lines (Number x) number) ≡ eqb number (next_number (system_of system).lines x)
+  pub system_jump_zero : is_zero (jump_from (system_of system).lines (Some x) number) ≡ eqb number (next_number (system_of system).lines x)
   system_jump_zero = jump_zero (system_of system).lines x number
 
-  pub system_jump_range : Within ((system_of system).lines / 2) (jump_from (system_of system).lines (Number x) number)
+  pub system_jump_range : Within ((system_of system).lines / 2) (jump_from (system_of system).lines (Some x) number)
   system_jump_range = jump_range (system_of system).lines ((system_of system).lines / 2) lines_odd number one last x least most

@@ -1,6 +1,5 @@
 pub mod Ready
 pub mod Stays
-pub mod SignedLaws
 pub mod JumpLaws
 pub mod EventLaws
 pub mod Accepts

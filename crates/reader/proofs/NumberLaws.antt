@@ -1,5 +1,6 @@
 -- A jump and what a reading call reports have the numbers that the state, the line and the room say.
 -- Assumes nothing.
+use Rattle.std.specs.Prelude.{Option, Some, None}
 use mathlib.Core.Path.{◌≡◌, refl, sym, ap, ap₂, ◌∙◌}
 use mathlib.Core.Bool.{Bool, true, false, ◌&&◌, not}
 use mathlib.Core.List.{List, [], ◌∷◌}
@@ -13,10 +14,6 @@ use Rattle.lists.proofs.Tests.{pick_true, pick_false}
 use Rattle.line.specs.declared.settings.Settings.{Settings}
 use Rattle.line.specs.Systems.{system_of}
 use Rattle.line.specs.Check.{number_of, settings_of, line_fault, checked_from, checked_of}
-use Rattle.course.specs.declared.Last.{Last}
-use Rattle.course.specs.declared.Last.TheVariants.{Unknown, Number}
-use Rattle.course.specs.declared.Place.{Place}
-use Rattle.course.specs.declared.Place.TheVariants.{Shut, At}
 use Rattle.machine.specs.declared.phase.Phase.{Phase}
 use Rattle.machine.specs.declared.phase.Mark.TheVariants.{Typed, Nulled}
 use Rattle.machine.specs.declared.phase.Phase.TheVariants.{Idle, Kind, First, Second, Third, Fourth, Data}
@@ -26,7 +23,6 @@ use Rattle.machine.specs.Phases.{is_busy, met_numbers}
 use Rattle.reader.specs.declared.state.Reader.{Reader}
 use Rattle.reader.specs.declared.state.Event.TheVariants.{Refused}
 use Rattle.reader.specs.declared.state.Told.{Told}
-use Rattle.reader.specs.declared.jump.Jump.{Jump}
 use Rattle.reader.specs.Jump.{jump_from, jump_numbers}
 use Rattle.reader.specs.Events.{event_numbers}
 use Rattle.reader.specs.Reading.{Reply, reply, refused, goes_on, begun, starts, told_by, walk_from, read_fault, read_from, reading_in, reading}
@@ -34,12 +30,9 @@ use Rattle.reader.specs.Numbers.{jump_by, is_open, refused_by, begun_by, start_b
 use Rattle.reader.proofs.Accepts.{begins_by, refuses_by}
 
 -- ---- the jump
-pub jump_numbers_lem : (lines : ℕ) (last : Last) (n : ℕ) → jump_numbers (jump_from lines last n) ≡ jump_by lines last n
-jump_numbers_lem lines Unknown n = refl
-jump_numbers_lem lines (Number x) n = refl
-
-pub jump_numbered : (lines : ℕ) (last : Last) (n : ℕ) (j : Jump) → j ≡ jump_from lines last n → (j ≡ jump_from lines last n) × (jump_numbers j ≡ jump_by lines last n)
-jump_numbered lines last n j e = (e, ap jump_numbers e ∙ jump_numbers_lem lines last n)
+pub jump_numbers_lem : (lines : ℕ) (last : Option ℕ) (n : ℕ) → jump_numbers (jump_from lines last n) ≡ jump_by lines last n
+jump_numbers_lem lines None n = refl
+jump_numbers_lem lines (Some x) n = refl
 
 -- ---- an open phase is one whose number is not 0
 open_is : (p : Phase) → is_busy p ≡ is_open p
@@ -62,10 +55,6 @@ begun_numbers : (st : Reader) (n : ℕ) (t : Settings) → event_numbers (begun 
 unfolding begun
 begun_numbers st n t =
     ap₂ (λ (b : Bool) (j : List ℤ). begun_by n (b && not (goes_on st n t)) j) (open_is st.phase) (jump_numbers_lem (system_of st.system).lines st.last n)
-
-pub begin_numbered : (st : Reader) (n : ℕ) (t : Settings) (x : Told) → x ≡ begun st n t
-    → (x ≡ begun st n t) × (event_numbers x.event ≡ begun_by n (is_open st.phase && not (goes_on st n t)) (jump_by (system_of st.system).lines st.last n))
-begin_numbered st n t x e = (e, ap (λ (y : Told). event_numbers y.event) e ∙ begun_numbers st n t)
 
 pub refuse_numbered : (st : Reader) (n : ℕ) (x : Told) → x ≡ refused st n → (x ≡ refused st n) × (event_numbers x.event ≡ refused_by n (is_open st.phase))
 refuse_numbered st n x e = (e, ap (λ (y : Told). event_numbers y.event) e ∙ ap (refused_by n) (open_is st.phase))
@@ -93,9 +82,9 @@ later_numbers st q p (Whole k n) = refl
 later_numbers st q p (Lost n) = refl
 
 -- ---- the call
-place_numbers : (p : Place) (st : Reader) (line room : List ℕ) → event_numbers (read_from p st line room).told.event ≡ place_by p st line room
-place_numbers Shut st line room = start_numbers st line
-place_numbers (At q) st line room = later_numbers st _ _ (walk_from st q line room).answer.met
+place_numbers : (p : Option ℕ) (st : Reader) (line room : List ℕ) → event_numbers (read_from p st line room).told.event ≡ place_by p st line room
+place_numbers None st line room = start_numbers st line
+place_numbers (Some q) st line room = later_numbers st _ _ (walk_from st q line room).answer.met
 
 call_by : (n : ℕ) (st : Reader) (room : List ℕ) (x : Reply) (l : List ℤ) → event_numbers x.told.event ≡ l
     → event_numbers (pick (eqb n 0) x (reply (record { event = Refused n false; state = st }) room)).told.event ≡ pick (eqb n 0) l (pos 0 ∷ pos n ∷ pos 0 ∷ [])

@@ -1,5 +1,6 @@
 -- What a call under an allowance comes to: a pause, from which a reading call tells what it would have told before; or what a reading call tells.
 -- Assumes nothing.
+use Rattle.std.specs.Prelude.{Option, Some, None}
 use mathlib.Core.Path.{◌≡◌, refl, sym, ap, ap₂, ◌∙◌, subst}
 use mathlib.Core.Bool.{Bool, true, false, ◌&&◌}
 use mathlib.Core.List.{List}
@@ -12,8 +13,6 @@ use borrow.Author.Tests.{eqb-true, eqb-false, eq-eqb}
 use Rattle.lists.proofs.Tests.{true_false}
 use Rattle.line.specs.Systems.{system_of}
 use Rattle.line.specs.Check.{checked_of}
-use Rattle.course.specs.declared.Place.{Place}
-use Rattle.course.specs.declared.Place.TheVariants.{Shut, At}
 use Rattle.course.specs.Course.{is_at, place_of}
 use Rattle.course.proofs.CourseLaws.{placed_end}
 use Rattle.machine.specs.declared.phase.Phase.{Phase}
@@ -42,7 +41,7 @@ pub record Pauses (c a : ℕ) (st : Reader) (line room : List ℕ) (st' : Reader
   pub again : read_fault_in c st' (length line) (length room') ≡ 0
   pub begun : 1 ≤ a → is_at st.place ≡ true
   pub one : 1 ≤ a → 1 ≤ unit_of st.settings.block
-  pub moved : (q : ℕ) → st.place ≡ At q → (st'.place ≡ At (q + a * unit_of st.settings.block)) × (q + a * unit_of st.settings.block ≤ end_in st)
+  pub moved : (q : ℕ) → st.place ≡ Some q → (st'.place ≡ Some (q + a * unit_of st.settings.block)) × (q + a * unit_of st.settings.block ≤ end_in st)
   pub still : a ≡ 0 → (st' ≡ st) × (room' ≡ room)
   pub of_system : st'.system ≡ st.system
   pub of_mode : st'.mode ≡ st.mode
@@ -52,9 +51,9 @@ pub record Pauses (c a : ℕ) (st : Reader) (line room : List ℕ) (st' : Reader
 -- told, with n consumed
 pub record Tells (c a : ℕ) (st : Reader) (line room : List ℕ) (n : ℕ) (t : Told) (room' : List ℕ) : Type 0 where
   pub same : reading_in c st line room ≡ reply t room'
-  pub moved : (q next : ℕ) → st.place ≡ At q → t.state.place ≡ At next → next ≡ q + n * unit_of st.settings.block
-  pub ended : (q : ℕ) → st.place ≡ At q → t.event ≡ End → (end_in st ≡ q + n * unit_of st.settings.block) × (n < a)
-  pub opened : st.place ≡ Shut → n ≡ 0
+  pub moved : (q next : ℕ) → st.place ≡ Some q → t.state.place ≡ Some next → next ≡ q + n * unit_of st.settings.block
+  pub ended : (q : ℕ) → st.place ≡ Some q → t.event ≡ End → (end_in st ≡ q + n * unit_of st.settings.block) × (n < a)
+  pub opened : st.place ≡ None → n ≡ 0
   pub met : is_at st.place ≡ true → is_last t.event ≡ false → (1 ≤ n) × (n ≤ a)
 
 pub data Outcome (c a : ℕ) (st : Reader) (line room : List ℕ) : Sliced → Type 0 where
@@ -62,10 +61,10 @@ pub data Outcome (c a : ℕ) (st : Reader) (line room : List ℕ) : Sliced → T
   is_told_lem : (n : ℕ) (t : Told) (room' : List ℕ) → Tells c a st line room n t room' → Outcome c a st line room (sliced (tells n t) room')
 
 -- ---- places and events that differ
-at_inj : (q p : ℕ) → At q ≡ At p → q ≡ p
+at_inj : (q p : ℕ) → Some q ≡ Some p → q ≡ p
 at_inj q p e = ap place_of e
 
-shut_at : (q : ℕ) → Shut ≡ At q → ⊥
+shut_at : (q : ℕ) → None ≡ Some q → ⊥
 shut_at q e = true_false (sym (ap is_at e))
 
 abbrev is_end : Event → Bool
@@ -75,12 +74,12 @@ is_end (Block k n) = false
 is_end (Drop n) = false
 is_end End = true
 
-told_met : (st : Reader) (i : ℕ) (p : Phase) (met : Met) → is_nothing met ≡ false → ((told_by st i p met).state.place ≡ At i) × (is_end (told_by st i p met).event ≡ false)
+told_met : (st : Reader) (i : ℕ) (p : Phase) (met : Met) → is_nothing met ≡ false → ((told_by st i p met).state.place ≡ Some i) × (is_end (told_by st i p met).event ≡ false)
 told_met st i p Nothing e = absurd (true_false e)
 told_met st i p (Whole k n) e = (refl, refl)
 told_met st i p (Lost n) e = (refl, refl)
 
-told_end : (st : Reader) (i : ℕ) (p : Phase) (met : Met) → is_nothing met ≡ true → ((told_by st i p met).state.place ≡ Shut) × (is_last (told_by st i p met).event ≡ true)
+told_end : (st : Reader) (i : ℕ) (p : Phase) (met : Met) → is_nothing met ≡ true → ((told_by st i p met).state.place ≡ None) × (is_last (told_by st i p met).event ≡ true)
 told_end st i p Nothing e = (refl, refl)
 told_end st i p (Whole k n) e = absurd (true_false (sym e))
 told_end st i p (Lost n) e = absurd (true_false (sym e))
@@ -92,7 +91,7 @@ told_again st q x i p (Whole k n) = refl
 told_again st q x i p (Lost n) = refl
 
 -- ---- a line begun
-module _ (c a : ℕ) (wide : 1920 ≤ c) (st : Reader) (q : ℕ) (line room : List ℕ) (fit : read_fault_in c st (length line) (length room) ≡ 0) (at : st.place ≡ At q) (given : a ≡ 0 → ⊥) where
+module _ (c a : ℕ) (wide : 1920 ≤ c) (st : Reader) (q : ℕ) (line room : List ℕ) (fit : read_fault_in c st (length line) (length room) ≡ 0) (at : st.place ≡ Some q) (given : a ≡ 0 → ⊥) where
   r : ReadyIn c st line room
   r = ready c st line room fit
 
@@ -104,12 +103,12 @@ module _ (c a : ℕ) (wide : 1920 ≤ c) (st : Reader) (q : ℕ) (line room : Li
     consumed = sym (ap (λ (t : ℕ). t / unit) k.whole ∙ mul-div_cancel k.count k.one)
 
     -- from another name of the place
-    from : (p : ℕ) → st.place ≡ At p → q + x.answer.taken ≡ p + k.count * unit_of st.settings.block
+    from : (p : ℕ) → st.place ≡ Some p → q + x.answer.taken ≡ p + k.count * unit_of st.settings.block
     from p e = ap₂ (λ (i j : ℕ). i + j) (at_inj q p (sym at ∙ e)) k.whole
 
     -- what a reading call tells of a walk that is this one
     told_same : walk_from st q line room ≡ x → reading_in c st line room ≡ goes_from st q x
-    told_same e = by_place c st line room (At q) fit at ∙ ap (goes_from st q) e
+    told_same e = by_place c st line room (Some q) fit at ∙ ap (goes_from st q) e
 
     met_told : is_nothing x.answer.met ≡ false → Outcome c a st line room (goes_within a st q x)
     met_told e =
@@ -156,11 +155,11 @@ module _ (c a : ℕ) (wide : 1920 ≤ c) (st : Reader) (q : ℕ) (line room : Li
         let taken = x.answer.taken in
         let y = walk_from (stands st q x) (q + taken) line x.room in
         let sum : q + taken + y.answer.taken ≡ q + (taken + y.answer.taken) = omega arith in
-        by_place c (stands st q x) line x.room (At (q + taken)) stands_fit refl
+        by_place c (stands st q x) line x.room (Some (q + taken)) stands_fit refl
         ∙ ap (λ (t : Told). reply t y.room)
         (told_again st q x (q + taken + y.answer.taken) y.answer.phase y.answer.met ∙ ap (λ (i : ℕ). told_by st i y.answer.phase y.answer.met) sum)
         ∙ ap (goes_from st q) (sym (k.on e h))
-        ∙ sym (by_place c st line room (At q) fit at)
+        ∙ sym (by_place c st line room (Some q) fit at)
 
     pause : is_nothing x.answer.met ≡ true → k.count ≡ a → Outcome c a st line room (goes_within a st q x)
     pause e h =
@@ -175,7 +174,7 @@ module _ (c a : ℕ) (wide : 1920 ≤ c) (st : Reader) (q : ℕ) (line room : Li
           one = λ z. k.one;
           moved = λ p e₁.
               let sum : q + x.answer.taken ≡ p + a * unit = from p e₁ ∙ ap (λ (n : ℕ). p + n * unit) h in
-              (ap At sum, omega (arith, sym sum, placed_end (system_of st.system).payload st.settings.block st.settings.flag (q + x.answer.taken) k.stays.placed));
+              (ap Some sum, omega (arith, sym sum, placed_end (system_of st.system).payload st.settings.block st.settings.flag (q + x.answer.taken) k.stays.placed));
           still = λ z. absurd (given z);
           of_system = refl;
           of_mode = refl;
@@ -220,7 +219,7 @@ none_outcome c st line room is =
       one = λ z. absurd (omega arith);
       moved = λ q e₁.
           let none : q ≡ q + 0 * unit_of st.settings.block = omega arith in
-          (e₁ ∙ ap At none, omega (arith, in_end st q line room e₁ (ready c st line room (sym is))));
+          (e₁ ∙ ap Some none, omega (arith, in_end st q line room e₁ (ready c st line room (sym is))));
       still = λ z. (refl, refl);
       of_system = refl;
       of_mode = refl;
@@ -231,19 +230,19 @@ none_outcome c st line room is =
 pub outcome : (c a : ℕ) → 1920 ≤ c → (st : Reader) (line room : List ℕ) → Outcome c a st line room (within_in c a st line room)
 outcome c a wide st line room = go (read_fault_in c st (length line) (length room)) refl a refl st.place refl
   where
-    go : (n : ℕ) → read_fault_in c st (length line) (length room) ≡ n → (b : ℕ) → a ≡ b → (p : Place) → st.place ≡ p → Outcome c a st line room (within_in c a st line room)
+    go : (n : ℕ) → read_fault_in c st (length line) (length room) ≡ n → (b : ℕ) → a ≡ b → (p : Option ℕ) → st.place ≡ p → Outcome c a st line room (within_in c a st line room)
     go (suc n) is b e p at = refused_outcome c a st line room n (sym is)
     go zero is zero e p at = subst (λ (k : ℕ). Outcome c k st line room (within_in c k st line room)) (sym e) (none_outcome c st line room (sym is))
-    go zero is (suc b) e Shut at =
-        subst (Outcome c a st line room) (within_goes c a st line room 0 (sym is) Shut refl (λ z. omega arith) at)
+    go zero is (suc b) e None at =
+        subst (Outcome c a st line room) (within_goes c a st line room 0 (sym is) None refl (λ z. omega arith) at)
         (is_told_lem 0 (starts st (checked_of st.system st.mode line)) room
         (record {
-          same = by_place c st line room Shut is at;
+          same = by_place c st line room None is at;
           moved = λ q next e₁ e₂. absurd (shut_at q (sym at ∙ e₁));
           ended = λ q e₁ e₂. absurd (shut_at q (sym at ∙ e₁));
           opened = λ e₁. refl;
           met = λ e₁ e₂. absurd (true_false (sym e₁ ∙ ap is_at at));
         }))
-    go zero is (suc b) e (At q) at =
-        subst (Outcome c a st line room) (within_goes c a st line room 0 (sym is) (At q) refl (λ z. omega arith) at)
+    go zero is (suc b) e (Some q) at =
+        subst (Outcome c a st line room) (within_goes c a st line room 0 (sym is) (Some q) refl (λ z. omega arith) at)
         (on_outcome c a wide st q line room is at (λ z. omega arith))

@@ -1,5 +1,6 @@
 -- Places stand one after another from payload word 0: place k of a fixed line is its words from payload word k * size on.
 -- Assumes nothing.
+use Rattle.std.specs.Prelude.{Some}
 use mathlib.Core.Path.{◌≡◌, sym, ap, ◌∙◌}
 use mathlib.Core.Bool.{false}
 use mathlib.Core.List.{List, []}
@@ -14,7 +15,6 @@ use Rattle.line.specs.Systems.{system_of}
 use Rattle.line.specs.Settings.{settings_fault}
 use Rattle.line.specs.Fixed.{is_variable, places_of, size_of}
 use Rattle.line.specs.Layout.{payload_at}
-use Rattle.course.specs.declared.Place.TheVariants.{At}
 use Rattle.course.specs.Course.{blocks_end, misplaced}
 use Rattle.course.proofs.CourseLaws.{start_placed, grid_left}
 use Rattle.machine.specs.Places.{places_in}
@@ -38,7 +38,7 @@ module _ (st : Reader) (line : List ℕ) (fixed : is_variable st.settings.block 
       places_in size (places_of (system_of st.system).payload st.settings.block - q / size) (words_from st q line)
 
   -- the k-th of them stands k places on
-  pub place_walked : (q k : ℕ) → misplaced (system_of st.system).payload st.settings.block st.settings.flag (At q) ≡ false
+  pub place_walked : (q k : ℕ) → misplaced (system_of st.system).payload st.settings.block st.settings.flag (Some q) ≡ false
       → k < places_of (system_of st.system).payload st.settings.block - q / size_of st.settings.block
       → get_or (walked q) k [] ≡ part (payload_at (system_of st.system) + (q + k * size_of st.settings.block)) (size_of st.settings.block) line
   unfolding words_from

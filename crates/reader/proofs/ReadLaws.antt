@@ -1,5 +1,6 @@
 -- Laws of a reading call: what is lent to the walk, and what the call then tells.
 -- Assumes nothing.
+use Rattle.std.specs.Prelude.{Some}
 use mathlib.Core.Path.{◌≡◌, refl, sym, ap, ap₂, ◌∙◌}
 use mathlib.Core.Bool.{Bool, true, false, ◌&&◌, not}
 use mathlib.Core.List.{List, [], ◌∷◌}
@@ -11,7 +12,7 @@ use lib.Seq.{take_all, take-take, drop-drop}
 use borrow.Author.Tests.{eqb-true, ne_eqb, not-false}
 use Rattle.lists.specs.Tests.{pick, when}
 use Rattle.lists.proofs.Tests.{both_true, pick_true, pick_false}
-use Rattle.lists.proofs.Refusals.{low_none, low_hit, low_miss}
+use Rattle.lists.proofs.Refusals.{low_hit}
 use Rattle.line.specs.declared.systems.System.{System}
 use Rattle.line.specs.Systems.{system_of, is_system}
 use Rattle.line.specs.Fixed.{is_variable, places_of, size_of}
@@ -20,7 +21,6 @@ use Rattle.line.specs.Check.{fits_length}
 use Rattle.line.proofs.SystemLaws.{fitting, payload_most, length_most}
 use Rattle.line.proofs.SettingsLaws.{block_passes}
 use Rattle.line.proofs.AreaLaws.{area_most}
-use Rattle.course.specs.declared.Place.TheVariants.{At}
 use Rattle.course.specs.Course.{blocks_end}
 use Rattle.course.proofs.CourseLaws.{end_in_area, placed_end, grid_left, grid_some, grid_count, whole_small}
 use Rattle.reader.specs.declared.state.Reader.{Reader}
@@ -29,12 +29,11 @@ use Rattle.machine.specs.Walk.{Walk, walk_of}
 use Rattle.machine.specs.Places.{places_in, walk_places, walk_fixed}
 use Rattle.machine.proofs.PlaceLaws.{fixed_walk}
 use Rattle.machine.proofs.Cut.{drop_take}
-use Rattle.reader.specs.Reading.{reply, words_from, walk_from, read_fault_in, read_from, reading_in}
+use Rattle.reader.specs.Reading.{reply, words_from, walk_from, read_fault_in, reading_in}
 use Rattle.reader.specs.Within.{walk_to}
 use Rattle.reader.specs.declared.state.Event.TheVariants.{Refused}
 use Rattle.reader.proofs.Ready.{ReadyIn, ready, at_q, words_long}
 use Rattle.reader.proofs.Stays.{Goes}
-use Rattle.reader.proofs.Accepts.{by_place}
 
 -- the words from a place further on
 pub words_next : (st : Reader) (q k : ℕ) (line : List ℕ) → words_from st (q + k) line ≡ drop k (words_from st q line)
@@ -49,7 +48,7 @@ words_next st q k line =
     ∙ sym (drop_take k (e - q) (drop (a + q) line))
 
 -- blocks end in the payload
-pub end_small : {c : ℕ} (st : Reader) (q : ℕ) (line room : List ℕ) → st.place ≡ At q → ReadyIn c st line room
+pub end_small : {c : ℕ} (st : Reader) (q : ℕ) (line room : List ℕ) → st.place ≡ Some q → ReadyIn c st line room
     → blocks_end (system_of st.system).payload st.settings.block st.settings.flag ≤ 1920
 unfolding fits_length
 end_small st q line room at r =
@@ -57,7 +56,7 @@ end_small st q line room at r =
     let area = end_in_area st.system st.settings known (eqb-true _ 0 (not-false _ (at_q st q line room at r).clean)) in
     omega (arith, area, area_most (system_of st.system).payload st.settings.flag, payload_most st.system)
 
-module _ {c : ℕ} (st : Reader) (q : ℕ) (line room : List ℕ) (at : st.place ≡ At q) (r : ReadyIn c st line room) (s : System) (row : s ≡ system_of st.system) where
+module _ {c : ℕ} (st : Reader) (q : ℕ) (line room : List ℕ) (at : st.place ≡ Some q) (r : ReadyIn c st line room) (s : System) (row : s ≡ system_of st.system) where
   pub payload_in : s.payload ≤ s.length
   payload_in = rw row (omega (arith, (fitting st.system st.mode line r.fit).row.room))
 
@@ -125,7 +124,7 @@ module _ {c : ℕ} (st : Reader) (q : ℕ) (line room : List ℕ) (at : st.place
       omega (arith, placed_end (system_of st.system).payload st.settings.block st.settings.flag (q + x.answer.taken) g.placed, end_small st q line room at r)
 
 -- ---- a walk to where blocks end is the walk from place q on
-module _ {c : ℕ} (st : Reader) (q : ℕ) (line room : List ℕ) (at : st.place ≡ At q) (r : ReadyIn c st line room) (wide : 1920 ≤ c) where
+module _ {c : ℕ} (st : Reader) (q : ℕ) (line room : List ℕ) (at : st.place ≡ Some q) (r : ReadyIn c st line room) (wide : 1920 ≤ c) where
   pub whole_walk : (e : ℕ) → e ≡ blocks_end (system_of st.system).payload st.settings.block st.settings.flag → walk_to e st q line room ≡ walk_from st q line room
   unfolding walk_to walk_from
   whole_walk e is =
@@ -159,14 +158,6 @@ module _ (c : ℕ) (st : Reader) (long room : ℕ) where
   unfolding read_fault_in
   fault_1 e = (low_hit 1 {rs = when 2 (impossible_in c st) ∷ []} (ap not e)).is
 
-  pub fault_2 : (fits_length st.system st.mode long && eqb room c) ≡ true → impossible_in c st ≡ true → 2 ≡ read_fault_in c st long room
-  unfolding read_fault_in
-  fault_2 e f = (low_miss 1 (ap not e) (low_hit 2 {rs = []} f)).is
-
-  pub fault_0 : (fits_length st.system st.mode long && eqb room c) ≡ true → impossible_in c st ≡ false → 0 ≡ read_fault_in c st long room
-  unfolding read_fault_in
-  fault_0 e f = (low_miss 1 (ap not e) (low_miss 2 f low_none)).is
-
 -- no fault 1 or 2: the capacity is the room's own length
 pub own_capacity : (c : ℕ) (st : Reader) (line room : List ℕ) → read_fault_in c st (length line) (length room) ≡ 0
     → (length room ≡ c) × (read_fault_in (length room) st (length line) (length room) ≡ 0)
@@ -181,6 +172,3 @@ module _ (c : ℕ) (st : Reader) (line room : List ℕ) (fault : ℕ) (is : faul
   read_refused h =
       ap (λ (n : ℕ). reply (record { event = Refused n false; state = st }) room) is
       ∙ sym (pick_false _ _ (ap (λ (n : ℕ). eqb n 0) (sym is) ∙ ne_eqb fault 0 h))
-
-  pub read_goes : fault ≡ 0 → read_from st.place st line room ≡ reading_in c st line room
-  read_goes h = sym (by_place c st line room st.place (sym is ∙ h) refl)

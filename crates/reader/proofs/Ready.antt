@@ -1,5 +1,6 @@
 -- What a call that is not refused with 1 or 2 has: a state that is possible, and words from its place on.
 -- Assumes nothing.
+use Rattle.std.specs.Prelude.{Option, Some}
 use mathlib.Core.Path.{◌≡◌, refl, sym, ap, ◌∙◌}
 use mathlib.Core.Bool.{true, false}
 use mathlib.Core.List.{List}
@@ -11,8 +12,6 @@ use Rattle.lists.specs.Tests.{rising}
 use Rattle.lists.proofs.Tests.{or_false, false_or, or_right, both_true}
 use Rattle.lists.proofs.Refusals.{lowest_clear}
 use Rattle.lists.proofs.Lists.{length_part}
-use Rattle.course.specs.declared.Place.{Place}
-use Rattle.course.specs.declared.Place.TheVariants.{At}
 use Rattle.line.specs.Systems.{system_of, is_system}
 use Rattle.line.specs.Layout.{payload_at}
 use Rattle.line.specs.Check.{fits_length, fits}
@@ -55,7 +54,7 @@ ready c st line room e =
     let b = both_true (fits st.system st.mode line) _ (not-false _ a.0) in
     record { fit = b.0; long = eqb-true _ _ b.1; state = a.1.0 }
 
-module _ {c : ℕ} (st : Reader) (q : ℕ) (line room : List ℕ) (at : st.place ≡ At q) (r : ReadyIn c st line room) where
+module _ {c : ℕ} (st : Reader) (q : ℕ) (line room : List ℕ) (at : st.place ≡ Some q) (r : ReadyIn c st line room) where
   abbrev payload : ℕ
   payload = (system_of st.system).payload
 
@@ -65,10 +64,10 @@ module _ {c : ℕ} (st : Reader) (q : ℕ) (line room : List ℕ) (at : st.place
   abbrev end : ℕ
   end = blocks_end (system_of st.system).payload st.settings.block st.settings.flag
 
-  pub at_q : Begun st.system st.last st.settings (At q) (is_busy st.phase)
+  pub at_q : Begun st.system st.last st.settings (Some q) (is_busy st.phase)
   at_q =
-      begun st.system st.last st.settings (At q) (is_busy st.phase)
-      (sym (ap (λ (p : Place). impossible_after st.system st.last st.settings p (is_busy st.phase)) at) ∙ course_of c st r.state)
+      begun st.system st.last st.settings (Some q) (is_busy st.phase)
+      (sym (ap (λ (p : Option ℕ). impossible_after st.system st.last st.settings p (is_busy st.phase)) at) ∙ course_of c st r.state)
       (or_right (is_busy st.phase) true refl)
 
   pub in_end : q ≤ blocks_end (system_of st.system).payload st.settings.block st.settings.flag

@@ -1,5 +1,6 @@
 -- The five slips that 01 has seen, none of which the definitions make: one checked list with one claim.
 -- Assumes nothing.
+use Rattle.std.specs.Prelude.{Some, None}
 use mathlib.Core.Bool.{Bool, true, false}
 use mathlib.Core.List.{List, [], ◌∷◌, ◌++◌, map}
 use mathlib.Core.Path.{◌≡◌, refl}
@@ -19,8 +20,6 @@ use Rattle.line.specs.Settings.{settings_faults, settings_fault, same_settings}
 use Rattle.line.specs.Header.{number_words, settings_bytes, settings_words, summed_words, header_words}
 use Rattle.line.specs.Layout.{area_length, end_words, framed, area_of, end_of}
 use Rattle.line.specs.Check.{legal, number_of, settings_of, timed, formed, crc_stands, numbered, head_faults, area_faults, payload_faults, faults, fits_length, line_fault, checked_of}
-use Rattle.course.specs.declared.Last.TheVariants.{Number}
-use Rattle.course.specs.declared.Place.TheVariants.{Shut}
 use Rattle.course.specs.Course.{next_number}
 use Rattle.machine.specs.declared.phase.Mark.TheVariants.{Typed}
 use Rattle.machine.specs.declared.phase.Phase.TheVariants.{Data}
@@ -55,7 +54,7 @@ put i w l = take i l ++ (w ∷ drop (suc i) l)
 
 -- a reader behind line 7 in the middle of a block, and what a call tells
 open_block : Reader
-open_block = record { system = 0; mode = 8; last = Number 7; settings = settings; place = Shut; phase = Data (Typed 1) 3 2 }
+open_block = record { system = 0; mode = 8; last = Some 7; settings = settings; place = None; phase = Data (Typed 1) 3 2 }
 
 lent : Reader → List ℕ → Told
 lent st l = (reading st l (replicate 16384 0)).told

@@ -1,5 +1,6 @@
 -- A possible state stays possible, whatever line and room are lent and however a call is answered: answer 2 never follows from a fresh reader.
 -- Assumes nothing.
+use Rattle.std.specs.Prelude.{Option, Some, None}
 use mathlib.Core.Path.{◌≡◌, refl, sym, ap, ◌∙◌, subst}
 use mathlib.Core.Bool.{Bool, true, false, ◌&&◌, not}
 use mathlib.Core.List.{List, ◌++◌}
@@ -13,8 +14,6 @@ use Rattle.lists.proofs.Tests.{true_false, false_or, both_true, and_true, pick_t
 use Rattle.lists.proofs.Refusals.{given_holds, lowest_clear, clear_lowest, clear_split}
 use Rattle.line.specs.declared.settings.Settings.{Settings}
 use Rattle.line.specs.declared.check.Checked.{Checked}
-use Rattle.course.specs.declared.Place.{Place}
-use Rattle.course.specs.declared.Place.TheVariants.{Shut, At}
 use Rattle.line.specs.Systems.{system_of}
 use Rattle.line.specs.Fixed.{is_variable, places_of, size_of}
 use Rattle.line.specs.Settings.{settings_faults, settings_fault, same_settings}
@@ -102,11 +101,11 @@ start_possible c st mode line e =
 -- ---- a line gone on with
 -- what a walk from place q leaves: a place, and a phase that may stand there
 pub record Goes (c : ℕ) (st : Reader) (q : ℕ) (x : Walk) : Type 0 where
-  pub placed : misplaced (system_of st.system).payload st.settings.block st.settings.flag (At (q + x.answer.taken)) ≡ false
+  pub placed : misplaced (system_of st.system).payload st.settings.block st.settings.flag (Some (q + x.answer.taken)) ≡ false
   pub varied : (is_busy x.answer.phase && not (is_variable st.settings.block)) ≡ false
   pub phased : misphased c x.answer.phase ≡ false
 
-module _ {c : ℕ} (st : Reader) (q : ℕ) (line room : List ℕ) (at : st.place ≡ At q) (r : ReadyIn c st line room) where
+module _ {c : ℕ} (st : Reader) (q : ℕ) (line room : List ℕ) (at : st.place ≡ Some q) (r : ReadyIn c st line room) where
   abbrev payload : ℕ
   payload = (system_of st.system).payload
 
@@ -137,7 +136,7 @@ module _ {c : ℕ} (st : Reader) (q : ℕ) (line room : List ℕ) (at : st.place
       let k = places_along st.mode st.phase size n (words_from st q line) room (omega (arith, words_long st q line room at r, all)) in
       let next = grid_next payload block flag q k.count v (at_q st q line room at r).placed (grid_left payload block flag q k.count v (at_q st q line room at r).placed (omega (arith, k.at_most, few))) in
       record {
-        placed = subst (λ (j : ℕ). misplaced payload block flag (At (q + j)) ≡ false) (sym k.whole) next;
+        placed = subst (λ (j : ℕ). misplaced payload block flag (Some (q + j)) ≡ false) (sym k.whole) next;
         varied = ap (λ (p : Phase). is_busy p && not (is_variable block)) k.phase ∙ (at_q st q line room at r).varied;
         phased = ap (misphased c) k.phase ∙ phase_of c st r.state;
       }
@@ -151,7 +150,7 @@ module _ {c : ℕ} (st : Reader) (q : ℕ) (line room : List ℕ) (at : st.place
       go true v = subst (Goes c st q) (sym (pick_true _ _ v)) (variable_goes v (words_from st q line) (omega (arith, words_long st q line room at r, in_end st q line room at r)))
       go false v = subst (Goes c st q) (sym (pick_false _ _ v)) (fixed_goes v (places_of payload block - q / size_of block) (omega arith))
 
-  pub told_possible : (i : ℕ) (p : Phase) (met : Met) → misplaced (system_of st.system).payload st.settings.block st.settings.flag (At i) ≡ false
+  pub told_possible : (i : ℕ) (p : Phase) (met : Met) → misplaced (system_of st.system).payload st.settings.block st.settings.flag (Some i) ≡ false
       → (is_busy p && not (is_variable st.settings.block)) ≡ false → misphased c p ≡ false → impossible_in c (told_by st i p met).state ≡ false
   told_possible i p Nothing x y z =
       let b = at_q st q line room at r in
@@ -167,9 +166,9 @@ module _ {c : ℕ} (st : Reader) (q : ℕ) (line room : List ℕ) (at : st.place
   on_possible = let g = walk_goes in told_possible _ _ (walk_from st q line room).answer.met g.placed g.varied g.phased
 
 -- ---- a reading call
-from_place : {c : ℕ} (p : Place) (st : Reader) (line room : List ℕ) → st.place ≡ p → ReadyIn c st line room → impossible_in c (read_from p st line room).told.state ≡ false
-from_place {c} Shut st line room at r = start_possible c st st.mode line r.state
-from_place (At q) st line room at r = on_possible st q line room at r
+from_place : {c : ℕ} (p : Option ℕ) (st : Reader) (line room : List ℕ) → st.place ≡ p → ReadyIn c st line room → impossible_in c (read_from p st line room).told.state ≡ false
+from_place {c} None st line room at r = start_possible c st st.mode line r.state
+from_place (Some q) st line room at r = on_possible st q line room at r
 
 pub read_possible : (c : ℕ) (st : Reader) (line room : List ℕ) → impossible_in c st ≡ false → impossible_in c (reading_in c st line room).told.state ≡ false
 unfolding reading_in
@@ -214,9 +213,9 @@ told_2 st q p Nothing e = omega arith
 told_2 st q p (Whole k n) e = omega arith
 told_2 st q p (Lost n) e = omega arith
 
-from_2 : (p : Place) (st : Reader) (line room : List ℕ) → refusal (read_from p st line room).told.event ≡ 2 → ⊥
-from_2 Shut st line room = start_2 st st.mode line
-from_2 (At q) st line room = told_2 st _ _ (walk_from st q line room).answer.met
+from_2 : (p : Option ℕ) (st : Reader) (line room : List ℕ) → refusal (read_from p st line room).told.event ≡ 2 → ⊥
+from_2 None st line room = start_2 st st.mode line
+from_2 (Some q) st line room = told_2 st _ _ (walk_from st q line room).answer.met
 
 fault_2 : (c : ℕ) (st : Reader) (long room : ℕ) → impossible_in c st ≡ false → read_fault_in c st long room ≡ 2 → ⊥
 unfolding read_fault_in

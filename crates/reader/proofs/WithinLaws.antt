@@ -1,5 +1,6 @@
 -- Laws of a reading call under an allowance: in which order it answers, and what it tells of a walk.
 -- Assumes nothing.
+use Rattle.std.specs.Prelude.{Option, Some, None}
 use mathlib.Core.Path.{◌≡◌, refl, sym, ap, ◌∙◌}
 use mathlib.Core.Bool.{Bool, true, false, ◌&&◌}
 use mathlib.Core.List.{List, [], ◌∷◌}
@@ -10,8 +11,6 @@ use lib.ListN.{length}
 use borrow.Author.Tests.{eq-eqb, ne_eqb}
 use Rattle.lists.specs.Tests.{pick}
 use Rattle.lists.proofs.Tests.{pick_true, pick_false}
-use Rattle.course.specs.declared.Place.{Place}
-use Rattle.course.specs.declared.Place.TheVariants.{Shut, At}
 use Rattle.machine.specs.Phases.{met_numbers}
 use Rattle.machine.specs.Walk.{Walk, is_nothing}
 use Rattle.reader.specs.declared.state.Reader.{Reader}
@@ -54,9 +53,9 @@ module _ (c a : ℕ) (st : Reader) (line room : List ℕ) (fault : ℕ) (is : fa
   within_none h z = sym (pick_true _ _ (eq-eqb _ 0 (sym is ∙ h)) ∙ pick_true _ _ (eq-eqb a 0 z))
 
   -- then the place decides
-  pub within_goes : (p : Place) → fault ≡ 0 → (a ≡ 0 → ⊥) → st.place ≡ p → within_from p a st line room ≡ within_in c a st line room
+  pub within_goes : (p : Option ℕ) → fault ≡ 0 → (a ≡ 0 → ⊥) → st.place ≡ p → within_from p a st line room ≡ within_in c a st line room
   unfolding within_in
-  within_goes p h z at = ap (λ (y : Place). within_from y a st line room) (sym at) ∙ sym (pick_true _ _ (eq-eqb _ 0 (sym is ∙ h)) ∙ pick_false _ _ (ne_eqb a 0 z))
+  within_goes p h z at = ap (λ (y : Option ℕ). within_from y a st line room) (sym at) ∙ sym (pick_true _ _ (eq-eqb _ 0 (sym is ∙ h)) ∙ pick_false _ _ (ne_eqb a 0 z))
 
 -- ---- the numbers of a report
 goes_numbers : (a : ℕ) (st : Reader) (q : ℕ) (x : Walk) → report_numbers (goes_within a st q x).answer.report ≡ goes_by a (unit_of st.settings.block) x
@@ -70,9 +69,9 @@ goes_numbers a st q x = go (is_pause a (x.answer.taken / unit_of st.settings.blo
     go true = ap (λ (y : Within). report_numbers y.report) (pick_true _ _ refl) ∙ sym (pick_true _ _ refl)
     go false = ap (λ (y : Within). report_numbers y.report) (pick_false _ _ refl) ∙ later_numbers st _ _ x.answer.met ∙ sym (pick_false _ _ refl)
 
-from_numbers : (p : Place) (a : ℕ) (st : Reader) (line room : List ℕ) → report_numbers (within_from p a st line room).answer.report ≡ from_by p a st line room
-from_numbers Shut a st line room = start_numbers st line
-from_numbers (At q) a st line room = goes_numbers a st q (walk_within a st q line room)
+from_numbers : (p : Option ℕ) (a : ℕ) (st : Reader) (line room : List ℕ) → report_numbers (within_from p a st line room).answer.report ≡ from_by p a st line room
+from_numbers None a st line room = start_numbers st line
+from_numbers (Some q) a st line room = goes_numbers a st q (walk_within a st q line room)
 
 pub within_numbers : (a : ℕ) (st : Reader) (line room : List ℕ) → report_numbers (within a st line room).answer.report ≡ within_by a st line room
 unfolding within_in within_by pick

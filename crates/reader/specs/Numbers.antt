@@ -1,14 +1,10 @@
 -- The numbers of a jump and of what a reading call reports, by the state, the line and the room alone.
 -- Assumes nothing.
-use Rattle.std.specs.Prelude.{ℕ, Bool, ◌&&◌, not, List, [], ◌∷◌, map, eqb, ℤ, pos, length, get_or}
+use Rattle.std.specs.Prelude.{ℕ, Bool, ◌&&◌, not, List, [], ◌∷◌, map, eqb, ℤ, pos, length, get_or, Option, Some, None}
 use Rattle.std.proofs.Math.IntN.{sub_ℕ}
 use Rattle.lists.specs.Tests.{pick}
 use Rattle.line.specs.Systems.{system_of}
 use Rattle.line.specs.Check.{number_of, settings_of, line_fault}
-use Rattle.course.specs.declared.Last.{Last}
-use Rattle.course.specs.declared.Last.TheVariants.{Unknown, Number}
-use Rattle.course.specs.declared.Place.{Place}
-use Rattle.course.specs.declared.Place.TheVariants.{Shut, At}
 use Rattle.course.specs.Course.{next_number}
 use Rattle.machine.specs.declared.phase.Phase.{Phase}
 use Rattle.machine.specs.Phases.{phase_numbers, met_numbers}
@@ -18,9 +14,9 @@ use Rattle.reader.specs.Events.{yes_no}
 use Rattle.reader.specs.Reading.{goes_on, walk_from, read_fault}
 
 -- with no last number none; else line number less expected number, folded by N
-abbrev pub jump_by : ℕ → Last → ℕ → List ℤ
-jump_by lines Unknown n = []
-jump_by lines (Number x) n = folded lines (sub_ℕ n (next_number lines x)) ∷ []
+abbrev pub jump_by : ℕ → Option ℕ → ℕ → List ℤ
+jump_by lines None n = []
+jump_by lines (Some x) n = folded lines (sub_ℕ n (next_number lines x)) ∷ []
 
 -- a block is open: the phase's number is not that of idle, 0
 abbrev pub is_open : Phase → Bool
@@ -44,9 +40,9 @@ start_by st line =
 unfoldable pub later_by : List ℕ → List ℤ
 later_by met = pick (eqb (get_or met 0 0) 0) (pos 4 ∷ []) (map pos met)
 
-abbrev pub place_by : Place → Reader → List ℕ → List ℕ → List ℤ
-place_by Shut st line room = start_by st line
-place_by (At q) st line room = later_by (met_numbers (walk_from st q line room).answer.met)
+abbrev pub place_by : Option ℕ → Reader → List ℕ → List ℕ → List ℤ
+place_by None st line room = start_by st line
+place_by (Some q) st line room = later_by (met_numbers (walk_from st q line room).answer.met)
 
 -- 1 and 2 before all else; they drop nothing
 unfoldable pub read_by : Reader → List ℕ → List ℕ → List ℤ

@@ -1,14 +1,10 @@
 -- A reading call: answers 1-13, 15 and 16, what is reported, and what stands in the state and the room afterwards.
 -- Assumes nothing.
-use Rattle.std.specs.Prelude.{ℕ, ◌+◌, ◌-◌, ◌/◌, Bool, false, ◌&&◌, not, List, [], ◌∷◌, eqb, length}
+use Rattle.std.specs.Prelude.{ℕ, ◌+◌, ◌-◌, ◌/◌, Bool, false, ◌&&◌, not, List, [], ◌∷◌, eqb, length, Option, Some, None}
 use Rattle.lists.specs.Tests.{pick, Refusal, when, lowest_of}
 use Rattle.lists.specs.Lists.{part}
 use Rattle.line.specs.declared.settings.Settings.{Settings}
 use Rattle.line.specs.declared.check.Checked.{Checked}
-use Rattle.course.specs.declared.Last.{Last}
-use Rattle.course.specs.declared.Last.TheVariants.{Unknown, Number}
-use Rattle.course.specs.declared.Place.{Place}
-use Rattle.course.specs.declared.Place.TheVariants.{Shut, At}
 use Rattle.line.specs.Systems.{system_of}
 use Rattle.line.specs.Fixed.{is_variable, places_of, size_of}
 use Rattle.line.specs.Settings.{same_settings}
@@ -37,13 +33,13 @@ abbrev pub reply : Told → List ℕ → Reply
 reply x room = record { told = x; room = room }
 
 -- the same system and mode
-abbrev pub becomes : Reader → Last → Settings → Place → Phase → Reader
+abbrev pub becomes : Reader → Option ℕ → Settings → Option ℕ → Phase → Reader
 becomes st last t place phase = record { system = st.system; mode = st.mode; last = last; settings = t; place = place; phase = phase }
 
 -- ---- no line begun
 -- Refused with 3-16: phase idle, last number none, settings kept; an open block is dropped.
 abbrev pub refused : Reader → ℕ → Told
-refused st n = record { event = Refused n (is_busy st.phase); state = becomes st Unknown st.settings Shut Idle }
+refused st n = record { event = Refused n (is_busy st.phase); state = becomes st None st.settings None Idle }
 
 -- An open block is dropped unless the jump is 0 and the settings are equal.
 unfoldable pub goes_on : Reader → ℕ → Settings → Bool
@@ -54,7 +50,7 @@ unfoldable pub begun : Reader → ℕ → Settings → Told
 begun st n t =
     record {
       event = Begun n (jump_from (system_of st.system).lines st.last n) (is_busy st.phase && not (goes_on st n t));
-      state = becomes st (Number n) t (At 0) (pick (goes_on st n t) st.phase Idle);
+      state = becomes st (Some n) t (Some 0) (pick (goes_on st n t) st.phase Idle);
     }
 
 -- refused where the line check finds a fault
@@ -77,9 +73,9 @@ walk_from st q line room =
 
 -- Later calls report a block, a drop, or the line's end. The line's end leaves no line begun and an open block open.
 abbrev pub told_by : Reader → ℕ → Phase → Met → Told
-told_by st q p Nothing = record { event = End; state = becomes st st.last st.settings Shut p }
-told_by st q p (Whole k n) = record { event = Block k n; state = becomes st st.last st.settings (At q) p }
-told_by st q p (Lost n) = record { event = Drop n; state = becomes st st.last st.settings (At q) p }
+told_by st q p Nothing = record { event = End; state = becomes st st.last st.settings None p }
+told_by st q p (Whole k n) = record { event = Block k n; state = becomes st st.last st.settings (Some q) p }
+told_by st q p (Lost n) = record { event = Drop n; state = becomes st st.last st.settings (Some q) p }
 
 abbrev pub goes_from : Reader → ℕ → Walk → Reply
 goes_from st q x = reply (told_by st (q + x.answer.taken) x.answer.phase x.answer.met) x.room
@@ -95,9 +91,9 @@ read_fault_in c st long room = lowest_of (read_faults_in c st long room)
 abbrev pub read_fault : Reader → ℕ → ℕ → ℕ
 read_fault st long room = read_fault_in capacity st long room
 
-abbrev pub read_from : Place → Reader → List ℕ → List ℕ → Reply
-read_from Shut st line room = reply (starts st (checked_of st.system st.mode line)) room
-read_from (At q) st line room = goes_from st q (walk_from st q line room)
+abbrev pub read_from : Option ℕ → Reader → List ℕ → List ℕ → Reply
+read_from None st line room = reply (starts st (checked_of st.system st.mode line)) room
+read_from (Some q) st line room = goes_from st q (walk_from st q line room)
 
 -- 1 and 2 leave everything
 unfoldable pub reading_in : ℕ → Reader → List ℕ → List ℕ → Reply

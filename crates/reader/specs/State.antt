@@ -1,8 +1,6 @@
 -- The reader's state, and which states are impossible.
 -- Assumes nothing.
-use Rattle.std.specs.Prelude.{ℕ, Bool, ◌||◌}
-use Rattle.course.specs.declared.Last.TheVariants.{Unknown}
-use Rattle.course.specs.declared.Place.TheVariants.{Shut}
+use Rattle.std.specs.Prelude.{ℕ, Bool, ◌||◌, None}
 use Rattle.line.specs.Settings.{no_settings}
 use Rattle.course.specs.Course.{impossible_after}
 use Rattle.machine.specs.declared.phase.Phase.TheVariants.{Idle}
@@ -15,7 +13,7 @@ capacity = 16384
 
 -- Fresh: no number, line or block, settings zero.
 abbrev pub fresh : ℕ → ℕ → Reader
-fresh system mode = record { system = system; mode = mode; last = Unknown; settings = no_settings; place = Shut; phase = Idle }
+fresh system mode = record { system = system; mode = mode; last = None; settings = no_settings; place = None; phase = Idle }
 
 -- the impossible rule, of lines and of the phase; c is the capacity, the words of the room
 unfoldable pub impossible_in : ℕ → Reader → Bool

@@ -1,13 +1,11 @@
 -- A reading call under an allowance of area words (02, Item 10): it goes over no more of the area than that, and reports paused where it has used up
 -- the allowance and met nothing. In a fixed line each place counts as one.
 -- Assumes nothing.
-use Rattle.std.specs.Prelude.{ℕ, ◌+◌, ◌-◌, ◌/◌, Bool, false, ◌&&◌, List, [], ◌∷◌, eqb, ℤ, pos, length, take}
+use Rattle.std.specs.Prelude.{ℕ, ◌+◌, ◌-◌, ◌/◌, Bool, false, ◌&&◌, List, [], ◌∷◌, eqb, ℤ, pos, length, take, Option, Some, None}
 use Rattle.lists.specs.Tests.{pick}
 use Rattle.line.specs.Systems.{system_of}
 use Rattle.line.specs.Fixed.{is_variable, places_of, size_of}
 use Rattle.line.specs.Check.{checked_of}
-use Rattle.course.specs.declared.Place.{Place}
-use Rattle.course.specs.declared.Place.TheVariants.{Shut, At}
 use Rattle.machine.specs.Phases.{met_numbers}
 use Rattle.machine.specs.Walk.{Walk, is_nothing, walk_of}
 use Rattle.machine.specs.Places.{places_in, walk_places, walk_fixed}
@@ -58,14 +56,14 @@ goes_within a st q x =
     let n = x.answer.taken / unit_of st.settings.block in
     let next = q + x.answer.taken in
     sliced
-    (pick (is_pause a n x) (paused_at n (becomes st st.last st.settings (At next) x.answer.phase))
+    (pick (is_pause a n x) (paused_at n (becomes st st.last st.settings (Some next) x.answer.phase))
     (tells n (told_by st next x.answer.phase x.answer.met)))
     x.room
 
 -- Opening costs nothing.
-abbrev pub within_from : Place → ℕ → Reader → List ℕ → List ℕ → Sliced
-within_from Shut a st line room = sliced (tells 0 (starts st (checked_of st.system st.mode line))) room
-within_from (At q) a st line room = goes_within a st q (walk_within a st q line room)
+abbrev pub within_from : Option ℕ → ℕ → Reader → List ℕ → List ℕ → Sliced
+within_from None a st line room = sliced (tells 0 (starts st (checked_of st.system st.mode line))) room
+within_from (Some q) a st line room = goes_within a st q (walk_within a st q line room)
 
 -- 1 and 2 leave everything; after them allowance 0 pauses at once and changes nothing, also at a line's start
 unfoldable pub within_in : ℕ → ℕ → Reader → List ℕ → List ℕ → Sliced
@@ -88,9 +86,9 @@ goes_by a unit x =
     let met = met_numbers x.answer.met in
     pick (is_pause a (x.answer.taken / unit) x) (pos 5 ∷ []) (later_by met)
 
-abbrev pub from_by : Place → ℕ → Reader → List ℕ → List ℕ → List ℤ
-from_by Shut a st line room = start_by st line
-from_by (At q) a st line room = goes_by a (unit_of st.settings.block) (walk_within a st q line room)
+abbrev pub from_by : Option ℕ → ℕ → Reader → List ℕ → List ℕ → List ℤ
+from_by None a st line room = start_by st line
+from_by (Some q) a st line room = goes_by a (unit_of st.settings.block) (walk_within a st q line room)
 
 unfoldable pub within_by : ℕ → Reader → List ℕ → List ℕ → List ℤ
 within_by a st line room =

@@ -6,26 +6,17 @@ ghost use Rattle.lists.specs.Tests.{pick};
 ghost use Rattle.reader.specs.Jump.{folded, jump_from, is_zero, jump_numbers};
 ghost use Rattle.reader.specs.Numbers.{jump_by};
 
-use course::Last;
-
-// With no last number the jump is unknown.
-#[derive(Clone, Copy)]
-pub enum Jump {
-    Unknown,
-    Known(i32),
-}
-
 // m ahead, or m behind.
+#[tactic(auto, unfolding(lists::specs::Tests::pick))]
 fn signed(behind: bool, m: u16) -> i32
     ensures { result ≡ pick behind (neg_ℤ (pos m)) (pos m) }
 {
-    if behind {
-        return 0 - m as i32;
-    }
-    m as i32
+    let d = i32::from(m);
+    if behind { -d } else { d }
 }
 
 // A distance behind or ahead, folded by N.
+#[tactic(auto, unfolding(crate::specs::Jump::folded, lists::specs::Tests::pick))]
 fn folded_by(lines: u16, behind: bool, d: u16) -> i32
     ensures { result ≡ folded lines (pick behind (neg_ℤ (pos d)) (pos d)) }
 {
@@ -36,6 +27,7 @@ fn folded_by(lines: u16, behind: bool, d: u16) -> i32
 }
 
 // A number less another, folded by N.
+#[tactic(auto, using(crate::proofs::JumpLaws::sub_behind, crate::proofs::JumpLaws::sub_ahead), unfolding(lists::specs::Tests::pick))]
 fn folded_less(lines: u16, number: u16, expected: u16) -> i32
     ensures { result ≡ folded lines (sub_ℕ number expected) }
 {
@@ -46,24 +38,21 @@ fn folded_less(lines: u16, number: u16, expected: u16) -> i32
 }
 
 // The jump to a line of that number; and its number, or none.
-pub fn jump_from(lines: u16, last: Last, number: u16) -> Jump
+pub fn jump_from(lines: u16, last: Option<u16>, number: u16) -> Option<i32>
     ensures { (result ≡ jump_from lines last number) × (jump_numbers result ≡ jump_by lines last number) }
 {
     match last {
-        Last::Unknown => Jump::Unknown,
-        Last::Number(x) => {
+        None => None,
+        Some(x) => {
             let expected = course::next_number(lines, x);
-            Jump::Known(folded_less(lines, number, expected))
+            Some(folded_less(lines, number, expected))
         }
     }
 }
 
 // The jump is 0.
-pub fn is_zero(jump: Jump) -> bool
+pub fn is_zero(jump: Option<i32>) -> bool
     ensures { result ≡ is_zero jump }
 {
-    match jump {
-        Jump::Unknown => false,
-        Jump::Known(d) => d == 0,
-    }
+    matches!(jump, Some(0))
 }

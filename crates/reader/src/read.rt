@@ -4,7 +4,6 @@ ghost use Rattle.std.specs.Prelude.{◌≡◌, false, ◌+◌, ◌≤◌, length
 ghost use Rattle.line.specs.Systems.{system_of};
 ghost use Rattle.line.specs.Fixed.{size_of};
 ghost use Rattle.course.specs.Course.{blocks_end};
-ghost use Rattle.course.specs.declared.Place.TheVariants.{At};
 ghost use Rattle.machine.specs.Walk.{leaves};
 ghost use Rattle.reader.specs.Events.{event_numbers};
 ghost use Rattle.reader.specs.Numbers.{read_by};
@@ -14,7 +13,6 @@ ghost use Rattle.reader.specs.Within.{walk_to};
 
 use crate::state::{Event, Reader, Told};
 use crate::{begin, state};
-use course::Place;
 use line::{check, fixed, systems};
 use machine::phase;
 use machine::phase::Phase;
@@ -36,28 +34,26 @@ fn barred(fault: u8) -> Asked
     ensures { result ≡ barred fault }
 {
     Asked {
-        fault: fault,
+        fault,
         end: 0,
         size: 0,
     }
 }
 
 // Each test leaves, and the table of fixed blocks is looked up once, because a call of a fixed line moves few words.
+#[tactic(auto, unfolding(crate::specs::Asking::asked, crate::specs::Reading::read_fault_in, crate::specs::State::impossible_in, lists::specs::Tests::pick))]
 pub fn ask(capacity: usize, st: Reader, long: usize, room: usize) -> Asked
     ensures { result ≡ asked capacity st long room }
 {
-    let last = st.last;
-    let settings = st.settings;
-    let place = st.place;
-    let phase = st.phase;
     if !(check::is_fit(st.system, st.mode, long) & (room == capacity)) {
         return barred(1);
     }
-    let x = course::look(st.system, last, settings, place, phase::is_busy(phase));
+    let busy = phase::is_busy(st.phase);
+    let x = course::look(st.system, st.last, st.settings, st.place, busy);
     if x.impossible {
         return barred(2);
     }
-    if phase::is_misphased(capacity, phase) {
+    if phase::is_misphased(capacity, st.phase) {
         return barred(2);
     }
     Asked {
@@ -76,60 +72,64 @@ pub(crate) fn walk_from(
     line: &[u16],
     room: &mut [u16],
 ) -> Walked
-    requires { (st.place ≡ At q) × (read_fault_in (length room.old) st (length line.now) (length room.old) ≡ 0) × (q ≤ end)
+    requires { (st.place ≡ Some q) × (read_fault_in (length room.old) st (length line.now) (length room.old) ≡ 0) × (q ≤ end)
         × (end ≤ blocks_end (system_of st.system).payload st.settings.block st.settings.flag) × (size ≡ size_of st.settings.block) }
     ensures { leaves result room.new ≡ walk_to end st q line.now room.old }
 {
     let s = systems::system_of(st.system);
-    let settings = st.settings;
-    let phase = st.phase;
     let a = s.length - s.payload;
     let e = a + end;
     let i = a + q;
-    if fixed::is_variable(settings.block) {
-        return walk::walk(st.mode, phase, &line[i..e], room);
+    if fixed::is_variable(st.settings.block) {
+        return walk::walk(st.mode, st.phase, &line[i..e], room);
     }
-    places::walk_fixed(st.mode, phase, size as usize, &line[i..e], room)
+    places::walk_fixed(st.mode, st.phase, usize::from(size), &line[i..e], room)
 }
 
 // What the call tells of what was met, the place being q afterwards.
 pub fn tell(st: Reader, q: usize, phase: Phase, met: Met) -> Told
     ensures { result ≡ told_by st q phase met }
 {
-    let last = st.last;
-    let t = st.settings;
     match met {
         Met::Nothing => Told {
             event: Event::End,
-            state: state::becomes(st, last, t, Place::Shut, phase),
+            state: Reader {
+                place: None,
+                phase,
+                ..st
+            },
         },
         Met::Whole { kind, length } => Told {
-            event: Event::Block {
-                kind: kind,
-                length: length,
+            event: Event::Block { kind, length },
+            state: Reader {
+                place: Some(q),
+                phase,
+                ..st
             },
-            state: state::becomes(st, last, t, Place::At(q), phase),
         },
         Met::Lost { reason } => Told {
-            event: Event::Drop { reason: reason },
-            state: state::becomes(st, last, t, Place::At(q), phase),
+            event: Event::Drop { reason },
+            state: Reader {
+                place: Some(q),
+                phase,
+                ..st
+            },
         },
     }
 }
 
 // Goes on from place q.
 fn read_on(st: Reader, end: usize, size: u16, q: usize, line: &[u16], room: &mut [u16]) -> Told
-    requires { (st.place ≡ At q) × (read_fault_in (length room.old) st (length line.now) (length room.old) ≡ 0) × (1920 ≤ length room.old)
+    requires { (st.place ≡ Some q) × (read_fault_in (length room.old) st (length line.now) (length room.old) ≡ 0) × (1920 ≤ length room.old)
         × (end ≡ blocks_end (system_of st.system).payload st.settings.block st.settings.flag) × (size ≡ size_of st.settings.block) }
     ensures { reply result room.new ≡ goes_from st q (walk_from st q line.now room.old) }
 {
     let x = walk_from(st, end, size, q, line, room);
-    let phase = x.phase;
-    let met = x.met;
-    tell(st, q + x.taken, phase, met)
+    tell(st, q + x.taken, x.phase, x.met)
 }
 
 // A reading call of that capacity, in which every fixed block has room.
+#[tactic(auto, using(crate::proofs::ReadLaws::own_capacity), unfolding(crate::specs::Reading::reading_in, crate::specs::Asking::asked, lists::specs::Tests::pick))]
 fn read_in(capacity: usize, st: Reader, line: &[u16], room: &mut [u16]) -> Told
     requires { 1920 ≤ capacity }
     ensures { reply result room.new ≡ reading_in capacity st line.now room.old }
@@ -144,10 +144,9 @@ fn read_in(capacity: usize, st: Reader, line: &[u16], room: &mut [u16]) -> Told
             state: st,
         };
     }
-    let place = st.place;
-    match place {
-        Place::Shut => begin::start(st, line),
-        Place::At(q) => read_on(st, x.end, x.size, q, line, room),
+    match st.place {
+        None => begin::start(st, line),
+        Some(q) => read_on(st, x.end, x.size, q, line, room),
     }
 }
 

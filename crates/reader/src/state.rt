@@ -3,8 +3,6 @@ ghost use Rattle.std.specs.Prelude.{◌≡◌};
 ghost use Rattle.reader.specs.State.{fresh, impossible};
 ghost use Rattle.reader.specs.Reading.{becomes};
 
-use crate::jump::Jump;
-use course::{Last, Place};
 use line::settings;
 use line::settings::Settings;
 use machine::phase;
@@ -17,13 +15,13 @@ pub const CAPACITY: usize = 16384;
 pub struct Reader {
     pub system: u8,
     pub mode: u8,
-    pub last: Last,
+    pub last: Option<u16>,
     pub settings: Settings,
-    pub place: Place,
+    pub place: Option<usize>,
     pub phase: Phase,
 }
 
-// What a reading call reports. The header of a begun line stands in the state that comes back.
+// What a reading call reports. Refusals and drops are numbers here, because `row_of` and `put_event` promise for every number. The header of a begun line stands in the state that comes back.
 #[derive(Clone, Copy)]
 pub enum Event {
     Refused {
@@ -32,7 +30,7 @@ pub enum Event {
     },
     Begun {
         number: u16,
-        jump: Jump,
+        jump: Option<i32>,
         dropped: bool,
     },
     Block {
@@ -56,39 +54,41 @@ pub struct Told {
 pub fn fresh_reader(system: u8, mode: u8) -> Reader
     ensures { result ≡ fresh system mode }
 {
-    let none = settings::no_settings();
     Reader {
-        system: system,
-        mode: mode,
-        last: Last::Unknown,
-        settings: none,
-        place: Place::Shut,
+        system,
+        mode,
+        last: None,
+        settings: settings::no_settings(),
+        place: None,
         phase: Phase::Idle,
     }
 }
 
 // The same system and mode, and all else anew.
-pub fn becomes(st: Reader, last: Last, t: Settings, place: Place, phase: Phase) -> Reader
+pub fn becomes(
+    st: Reader,
+    last: Option<u16>,
+    t: Settings,
+    place: Option<usize>,
+    phase: Phase,
+) -> Reader
     ensures { result ≡ becomes st last t place phase }
 {
     Reader {
-        system: st.system,
-        mode: st.mode,
-        last: last,
+        last,
         settings: t,
-        place: place,
-        phase: phase,
+        place,
+        phase,
+        ..st
     }
 }
 
 // No reader can have come into this state.
+#[tactic(auto, unfolding(crate::specs::State::impossible_in))]
 pub fn is_impossible(st: Reader) -> bool
     ensures { result ≡ impossible st }
 {
-    let last = st.last;
-    let settings = st.settings;
-    let place = st.place;
-    let phase = st.phase;
-    let lines = course::is_impossible(st.system, last, settings, place, phase::is_busy(phase));
-    lines | phase::is_misphased(CAPACITY, phase)
+    let busy = phase::is_busy(st.phase);
+    course::is_impossible(st.system, st.last, st.settings, st.place, busy)
+        | phase::is_misphased(CAPACITY, st.phase)
 }

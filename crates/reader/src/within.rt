@@ -4,17 +4,15 @@ ghost use Rattle.std.specs.Prelude.{◌≡◌, ◌+◌, ◌-◌, ◌*◌, ◌/�
 ghost use Rattle.line.specs.Systems.{system_of};
 ghost use Rattle.line.specs.Fixed.{size_of};
 ghost use Rattle.course.specs.Course.{blocks_end};
-ghost use Rattle.course.specs.declared.Place.TheVariants.{At};
 ghost use Rattle.reader.specs.Reading.{read_fault_in};
 ghost use Rattle.reader.specs.Within.{sliced, paused_at, tells, unit_of, walk_within, goes_within, within_in, within, report_numbers, within_by};
 
 use crate::state::{Event, Reader, Told};
 use crate::{begin, read, state};
-use course::Place;
 use line::fixed;
 use machine::walk;
 
-// Paused stands around the event: it is no event of the line.
+// Paused stands around the event: it is no event of the line. Not an `Option`: a pause says that the call comes again, and a name says so more plainly.
 #[derive(Clone, Copy)]
 pub enum Report {
     Paused,
@@ -34,7 +32,7 @@ pub fn paused(consumed: usize, st: Reader) -> Within
 {
     Within {
         report: Report::Paused,
-        consumed: consumed,
+        consumed,
         state: st,
     }
 }
@@ -43,16 +41,15 @@ pub fn paused(consumed: usize, st: Reader) -> Within
 pub fn tells(consumed: usize, t: Told) -> Within
     ensures { result ≡ tells consumed t }
 {
-    let event = t.event;
-    let state = t.state;
     Within {
-        report: Report::Told(event),
-        consumed: consumed,
-        state: state,
+        report: Report::Told(t.event),
+        consumed,
+        state: t.state,
     }
 }
 
 // The words that count as one.
+#[tactic(auto, unfolding(crate::specs::Within::unit_of, lists::specs::Tests::pick))]
 fn unit_of(block: u8, size: u16) -> usize
     requires { size ≡ size_of block }
     ensures { result ≡ unit_of block }
@@ -60,7 +57,7 @@ fn unit_of(block: u8, size: u16) -> usize
     if fixed::is_variable(block) {
         return 1;
     }
-    size as usize
+    usize::from(size)
 }
 
 // Goes on from place q, as far as the allowance lets.
@@ -73,29 +70,28 @@ fn go_on(
     line: &[u16],
     room: &mut [u16],
 ) -> Within
-    requires { (st.place ≡ At q) × (read_fault_in (length room.old) st (length line.now) (length room.old) ≡ 0) × (1920 ≤ length room.old)
+    requires { (st.place ≡ Some q) × (read_fault_in (length room.old) st (length line.now) (length room.old) ≡ 0) × (1920 ≤ length room.old)
         × (end ≡ blocks_end (system_of st.system).payload st.settings.block st.settings.flag) × (size ≡ size_of st.settings.block) }
     ensures { sliced result room.new ≡ goes_within allowance st q (walk_within allowance st q line.now room.old) }
 {
-    let last = st.last;
-    let t = st.settings;
-    let unit = unit_of(t.block, size);
-    let far = q + lists::smaller_of(allowance, (end - q) / unit) * unit;
+    let unit = unit_of(st.settings.block, size);
+    let far = q + allowance.min((end - q) / unit) * unit;
     let x = read::walk_from(st, far, size, q, line, room);
-    let phase = x.phase;
-    let met = x.met;
     let next = q + x.taken;
     let consumed = x.taken / unit;
-    if walk::is_nothing(met) & (consumed == allowance) {
-        return paused(
-            consumed,
-            state::becomes(st, last, t, Place::At(next), phase),
-        );
+    if walk::is_nothing(x.met) & (consumed == allowance) {
+        let state = Reader {
+            place: Some(next),
+            phase: x.phase,
+            ..st
+        };
+        return paused(consumed, state);
     }
-    tells(consumed, read::tell(st, next, phase, met))
+    tells(consumed, read::tell(st, next, x.phase, x.met))
 }
 
 // A reading call of that capacity, in which every fixed block has room.
+#[tactic(auto, using(crate::proofs::ReadLaws::own_capacity), unfolding(crate::specs::Within::within_in, crate::specs::Asking::asked, lists::specs::Tests::pick))]
 fn read_within_in(
     capacity: usize,
     st: Reader,
@@ -120,10 +116,9 @@ fn read_within_in(
     if allowance == 0 {
         return paused(0, st);
     }
-    let place = st.place;
-    match place {
-        Place::Shut => tells(0, begin::start(st, line)),
-        Place::At(q) => go_on(st, allowance, x.end, x.size, q, line, room),
+    match st.place {
+        None => tells(0, begin::start(st, line)),
+        Some(q) => go_on(st, allowance, x.end, x.size, q, line, room),
     }
 }
 

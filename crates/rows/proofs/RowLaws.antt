@@ -1,14 +1,13 @@
 -- Laws of an event's row: its text fits, so that what was added part by part is the row.
 -- Assumes nothing.
+use Rattle.std.specs.Prelude.{Option, Some, None, ℤ}
 use mathlib.Core.Path.{◌≡◌, sym, ap, ◌∙◌}
 use mathlib.Core.Bool.{Bool, true, false}
 use mathlib.Core.List.{List, ◌++◌, append_assoc}
-use Prim.Native.Nat.{ℕ, suc, ◌+◌, ◌-◌, ◌<◌, ◌≤◌}
+use Prim.Native.Nat.{ℕ, suc, ◌+◌, ◌<◌, ◌≤◌}
 use native.Mathlib.Omega.{arith}
 use lib.IntN.{pos, negsuc}
-use lib.ListN.{length, replicate, length-append}
-use Rattle.reader.specs.declared.jump.Jump.{Jump}
-use Rattle.reader.specs.declared.jump.Jump.TheVariants.{Unknown, Known}
+use lib.ListN.{length, length-append}
 use Rattle.reader.specs.declared.state.Event.{Event}
 use Rattle.reader.specs.declared.state.Event.TheVariants.{Refused, Begun, Block, Drop, End}
 use Rattle.rows.specs.Text.{decimal, begun_text, refused_text, block_text, drop_text, end_text, dropped_text, space, newline}
@@ -24,10 +23,10 @@ length_dropped : (b : Bool) → length (dropped_text b ++ newline) ≤ 9
 length_dropped true = omega arith
 length_dropped false = omega arith
 
-length_jump : (j : Jump) → length (jump_text j) ≤ 21
-length_jump Unknown = omega arith
-length_jump (Known (pos n)) = omega (arith, length_decimal n)
-length_jump (Known (negsuc n)) = omega (arith, length_decimal (suc n))
+length_jump : (j : Option ℤ) → length (jump_text j) ≤ 21
+length_jump None = omega arith
+length_jump (Some (pos n)) = omega (arith, length_decimal n)
+length_jump (Some (negsuc n)) = omega (arith, length_decimal (suc n))
 
 -- ---- texts of at most 48 bytes
 row : (e : Event) → length (row_text e) ≤ 48 → added none (row_text e) ≡ row_of e
@@ -43,7 +42,7 @@ refused_row n b =
     ended refused_text (decimal n) (dropped_text b ++ newline)
     ∙ row (Refused n b) (omega (arith, two (decimal n) (dropped_text b ++ newline) 20 9 (length_decimal n) (length_dropped b)))
 
-pub begun_row : (n : ℕ) (j : Jump) (b : Bool) → n < 65536
+pub begun_row : (n : ℕ) (j : Option ℤ) (b : Bool) → n < 65536
     → added (added (added none (begun_text ++ decimal n)) (space ++ jump_text j)) (dropped_text b ++ newline) ≡ row_of (Begun n j b)
 begun_row n j b h =
     let end = dropped_text b ++ newline in
@@ -67,8 +66,3 @@ drop_row n =
 
 pub end_row : added (added none end_text) newline ≡ row_of End
 end_row = sym (added_append none end_text newline) ∙ row End (omega arith)
-
--- ---- a row's text stands in its bytes
-pub inside : (e : Event) → (row_of e).length ≤ length (row_of e).bytes
-unfolding row_of
-inside e = let t = row_text e in rw (length-append t (replicate (48 - length t) 0)) (omega arith)

@@ -1,17 +1,15 @@
 -- What the listing writes for an event: one row, exactly as 01 writes them.
 -- Assumes nothing.
-use Rattle.std.specs.Prelude.{ℕ, ◌-◌, List, ◌++◌, length, replicate}
-use Rattle.reader.specs.declared.jump.Jump.{Jump}
-use Rattle.reader.specs.declared.jump.Jump.TheVariants.{Unknown, Known}
+use Rattle.std.specs.Prelude.{ℕ, ◌-◌, List, ◌++◌, length, replicate, Option, Some, None, ℤ}
 use Rattle.reader.specs.declared.state.Event.{Event}
 use Rattle.reader.specs.declared.state.Event.TheVariants.{Refused, Begun, Block, Drop, End}
 use Rattle.rows.specs.declared.Row.{Row}
 use Rattle.rows.specs.Text.{decimal, signed, begun_text, refused_text, block_text, drop_text, end_text, unknown_text, dropped_text, space, newline}
 
 -- A known jump is decimal, as `begun 21 0` or `begun 20 -1`.
-abbrev pub jump_text : Jump → List ℕ
-jump_text Unknown = unknown_text
-jump_text (Known z) = signed z
+abbrev pub jump_text : Option ℤ → List ℕ
+jump_text None = unknown_text
+jump_text (Some z) = signed z
 
 -- Else `block 1 3`, `drop 4`, `refused 16`, `end`; ` dropped` ends a begun or refused that says so.
 abbrev pub row_text : Event → List ℕ

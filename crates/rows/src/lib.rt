@@ -1,13 +1,12 @@
 // The listing's rows: the text of an event, and whether more follow of its line.
 #![tactic(auto)]
 
-ghost use Rattle.std.specs.Prelude.{◌≡◌, not, ◌++◌};
+ghost use Rattle.std.specs.Prelude.{◌≡◌, not, ◌++◌, take};
 ghost use Rattle.reader.specs.Lending.{is_last};
 ghost use Rattle.rows.specs.Text.{decimal, signed, dropped_text, space, newline};
 ghost use Rattle.rows.specs.Rows.{jump_text, row_of};
 ghost use Rattle.rows.specs.Cuts.{none, put, added};
 
-use reader::jump::Jump;
 use reader::state::Event;
 
 // A row: its text stands in the first `length` bytes, zeros behind.
@@ -17,146 +16,132 @@ pub struct Row {
     pub length: usize,
 }
 
-// No text yet.
-fn empty() -> Row
-    ensures { result ≡ none }
-{
-    Row {
-        bytes: [0; 48],
-        length: 0,
+impl Row {
+    // The text.
+    pub fn as_bytes(&self) -> &[u8]
+        ensures { result.now ≡ take self.now.length self.now.bytes }
+    {
+        &self.bytes[..self.length.min(48)]
     }
-}
 
-// One byte more. No event's text comes to where a byte has no place.
-fn add_byte(row: Row, b: u8) -> Row
-    ensures { result ≡ put row b }
-{
-    let mut bytes = row.bytes;
-    let n = row.length;
-    if n < 48 {
-        bytes[n] = b;
-        return Row {
-            bytes: bytes,
-            length: n + 1,
-        };
+    // No text yet.
+    fn empty() -> Row
+        ensures { result ≡ none }
+    {
+        Row {
+            bytes: [0; 48],
+            length: 0,
+        }
     }
-    row
-}
 
-// The bytes of a text.
-fn add_text(row: Row, text: &[u8]) -> Row
-    ensures { result ≡ added row text.now }
-{
-    let mut out = row;
-    let mut i = 0;
-    while i < text.len() {
-        out = add_byte(out, text[i]);
-        i += 1;
+    // One byte more. No event's text comes to where a byte has no place.
+    fn add_byte(&mut self, b: u8)
+        ensures { self.new ≡ put self.old b }
+    {
+        if self.length < 48 {
+            self.bytes[self.length] = b;
+            self.length += 1;
+        }
     }
-    out
-}
 
-// A number in decimal: a call for its tenth adds the digits in front of the last.
-fn add_decimal(row: Row, n: u64) -> Row
-    ensures { result ≡ added row (decimal n) }
-{
-    if n < 10 {
-        return add_byte(row, 48 + n as u8);
+    // The bytes of a text.
+    fn add_text(&mut self, text: &[u8])
+        ensures { self.new ≡ added self.old text.now }
+    {
+        for b in text {
+            self.add_byte(*b);
+        }
     }
-    let front = add_decimal(row, n / 10);
-    add_byte(front, 48 + (n % 10) as u8)
-}
 
-// A number that may be below 0.
-fn add_signed(row: Row, d: i32) -> Row
-    ensures { result ≡ added row (signed d) }
-{
-    if d < 0 {
-        let minus = add_byte(row, b'-');
-        return add_decimal(minus, lists::size(d) as u64);
+    // A number in decimal: a call for its tenth adds the digits in front of the last.
+    fn add_decimal(&mut self, n: u64)
+        ensures { self.new ≡ added self.old (decimal n) }
+    {
+        if 10 <= n {
+            self.add_decimal(n / 10);
+        }
+        self.add_byte(48 + (n % 10) as u8);
     }
-    add_decimal(row, lists::size(d) as u64)
-}
 
-// A space and a jump.
-fn add_jump(row: Row, jump: Jump) -> Row
-    ensures { result ≡ added row (space ++ jump_text jump) }
-{
-    let behind = add_byte(row, b' ');
-    match jump {
-        Jump::Unknown => add_text(behind, b"unknown"),
-        Jump::Known(d) => add_signed(behind, d),
+    // A number that may be below 0.
+    fn add_signed(&mut self, d: i32)
+        ensures { self.new ≡ added self.old (signed d) }
+    {
+        if d < 0 {
+            self.add_byte(b'-');
+        }
+        self.add_decimal(u64::from(d.unsigned_abs()));
     }
-}
 
-// What every row ends with.
-fn end_row(row: Row, dropped: bool) -> Row
-    ensures { result ≡ added row (dropped_text dropped ++ newline) }
-{
-    if dropped {
-        return add_text(row, b" dropped\n");
+    // A space and a jump.
+    fn add_jump(&mut self, jump: Option<i32>)
+        ensures { self.new ≡ added self.old (space ++ jump_text jump) }
+    {
+        self.add_byte(b' ');
+        match jump {
+            None => self.add_text(b"unknown"),
+            Some(d) => self.add_signed(d),
+        }
     }
-    add_text(row, b"\n")
-}
 
-// What every row but `end` begins with.
-fn begin_row(name: &[u8], n: u64) -> Row
-    ensures { result ≡ added none (name.now ++ decimal n) }
-{
-    let named = add_text(empty(), name);
-    add_decimal(named, n)
+    // What every row but `end` begins with.
+    #[tactic(auto, using(crate::proofs::TextLaws::added_append))]
+    fn begin(&mut self, name: &[u8], n: u64)
+        ensures { self.new ≡ added self.old (name.now ++ decimal n) }
+    {
+        self.add_text(name);
+        self.add_decimal(n);
+    }
+
+    // What every row ends with.
+    fn end(&mut self, dropped: bool)
+        ensures { self.new ≡ added self.old (dropped_text dropped ++ newline) }
+    {
+        self.add_text(if dropped { b" dropped\n" } else { b"\n" });
+    }
 }
 
 // The row of an event.
+#[tactic(auto, using(crate::proofs::RowLaws::refused_row, crate::proofs::RowLaws::begun_row, crate::proofs::RowLaws::block_row, crate::proofs::RowLaws::drop_row, crate::proofs::RowLaws::end_row))]
 pub fn row_of(event: Event) -> Row
     ensures { result ≡ row_of event }
 {
+    let mut row = Row::empty();
     match event {
         Event::Refused { answer, dropped } => {
-            let row = begin_row(b"refused ", answer as u64);
-            end_row(row, dropped)
+            row.begin(b"refused ", u64::from(answer));
+            row.end(dropped);
         }
         Event::Begun {
             number,
             jump,
             dropped,
         } => {
-            let row = begin_row(b"begun ", number as u64);
-            let told = add_jump(row, jump);
-            end_row(told, dropped)
+            row.begin(b"begun ", u64::from(number));
+            row.add_jump(jump);
+            row.end(dropped);
         }
         Event::Block { kind, length } => {
-            let row = begin_row(b"block ", kind as u64);
-            let told = add_decimal(add_byte(row, b' '), length as u64);
-            end_row(told, false)
+            row.begin(b"block ", u64::from(kind));
+            row.add_byte(b' ');
+            row.add_decimal(length as u64);
+            row.end(false);
         }
         Event::Drop { reason } => {
-            let row = begin_row(b"drop ", reason as u64);
-            end_row(row, false)
+            row.begin(b"drop ", u64::from(reason));
+            row.end(false);
         }
         Event::End => {
-            let row = add_text(empty(), b"end");
-            end_row(row, false)
+            row.add_text(b"end");
+            row.end(false);
         }
     }
+    row
 }
 
 // The line is not over with this event.
 pub fn goes_on(event: Event) -> bool
     ensures { result ≡ not (is_last event) }
 {
-    match event {
-        Event::Refused {
-            answer: _,
-            dropped: _,
-        } => false,
-        Event::Begun {
-            number: _,
-            jump: _,
-            dropped: _,
-        } => true,
-        Event::Block { kind: _, length: _ } => true,
-        Event::Drop { reason: _ } => true,
-        Event::End => false,
-    }
+    !matches!(event, Event::Refused { .. } | Event::End)
 }

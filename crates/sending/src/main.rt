@@ -10,25 +10,16 @@ ghost use Rattle.std.specs.Prelude.{◌≤◌};
 
 use damage::Damage;
 use lines::{closing, opening};
+use std::io;
 use writer::adding::Addition;
 use writer::state::{Laid, Writer};
 use writer::{adding, state};
 
-// What goes from call to call: the writer's state, the block that is added next, and whether the line took none to its end.
+// What goes from line to line: the writer's state, and the block that is added next.
 #[derive(Clone, Copy)]
 pub struct Kept {
     pub writer: Writer,
     pub block: usize,
-    pub full: bool,
-}
-
-// The block was laid to its end.
-fn is_finished(answer: Laid) -> bool {
-    match answer {
-        Laid::Refused(_) => false,
-        Laid::Finished => true,
-        Laid::Unfinished => false,
-    }
 }
 
 // A block of n values added, or the rest of it.
@@ -39,128 +30,89 @@ fn add(w: Writer, kind: u16, n: usize, line: &mut [u16]) -> Addition
     adding::add_block(w, kind, &values[..n], line)
 }
 
-// The next block added. Where it is not finished it is still the next.
-fn add_next(kept: Kept, line: &mut [u16]) -> Kept {
-    let k = kept.block;
-    let told = add(kept.writer, plan::type_of(k), plan::count_of(k), line);
-    let answer = told.answer;
-    let w = told.state;
-    if is_finished(answer) {
-        return Kept {
-            writer: w,
-            block: plan::after(k),
-            full: false,
-        };
-    }
-    Kept {
-        writer: w,
-        block: k,
-        full: true,
-    }
-}
-
-// Blocks added until the line is full or none is left.
+// Blocks added until the line is full or none is left. One that is not finished is still the next.
 fn add_blocks(kept: Kept, line: &mut [u16]) -> Kept {
     let mut now = kept;
-    let mut calls = 0u32;
-    while calls < 20 && now.block < plan::BLOCKS && !now.full {
-        now = add_next(now, line);
-        calls += 1;
+    for k in kept.block..plan::BLOCKS {
+        let told = add(now.writer, plan::type_of(k), plan::count_of(k), line);
+        now.writer = told.state;
+        if !matches!(told.answer, Laid::Finished) {
+            break;
+        }
+        now.block = k + 1;
     }
     now
 }
 
 // Three places of a fixed line filled; a block of block type 21h has four values.
 fn add_places(kept: Kept, line: &mut [u16]) -> Kept {
-    let one = add(kept.writer, 101, 4, line);
-    let two = add(one.state, 102, 4, line);
-    let three = add(two.state, 103, 4, line);
-    let w = three.state;
-    Kept {
-        writer: w,
-        block: kept.block,
-        full: false,
+    let mut now = kept;
+    for kind in 101..=103 {
+        now.writer = add(now.writer, kind, 4, line).state;
     }
-}
-
-// The blocks of a line added.
-fn fill_line(kept: Kept, fixed: bool, line: &mut [u16]) -> Kept {
-    if fixed {
-        return add_places(kept, line);
-    }
-    add_blocks(kept, line)
-}
-
-// The line as bytes: whether it was written. Where it was not it is said why, and where that cannot be said either, nothing is.
-fn write_line(rt: &(impl Print + Eprint), line: &[u16; 1716]) -> bool {
-    let mut bytes = [0u8; 3432];
-    octets::bytes_of(line, &mut bytes);
-    match rt.write_all(&bytes) {
-        Ok(()) => true,
-        Err(e) => {
-            let _ = eprintln!(rt; "sending: standard output: {e}");
-            false
-        }
-    }
-}
-
-// What is left of the line after the damage is sent: whether more may be.
-fn send_line(rt: &(impl Print + Eprint), d: Damage, number: u16, line: &mut [u16; 1716]) -> bool {
-    if damage::is_lost(d, number) {
-        return true;
-    }
-    if d.spoiled == number {
-        damage::spoil_word(line);
-    }
-    write_line(rt, line)
+    now
 }
 
 // A line opened, filled and closed.
-fn next_line(kept: Kept, turn: u16, line: &mut [u16; 1716]) -> Kept {
+fn next_line(kept: Kept, turn: u16, line: &mut [u16]) -> Kept {
     let fixed = plan::is_fixed(turn);
-    let number = plan::number_of(turn);
     let settings = plan::settings_of(plan::block_of(fixed));
-    let opened = opening::open_line(kept.writer, false, false, number, settings, line);
-    let w = opened.state;
+    let opened = opening::open_line(
+        kept.writer,
+        false,
+        false,
+        plan::number_of(turn),
+        settings,
+        line,
+    );
     let begun = Kept {
-        writer: w,
-        block: kept.block,
-        full: false,
+        writer: opened.state,
+        ..kept
     };
-    let filled = fill_line(begun, fixed, line);
+    let filled = if fixed {
+        add_places(begun, line)
+    } else {
+        add_blocks(begun, line)
+    };
     let closed = closing::close_line(filled.writer, line);
-    let after = closed.state;
     Kept {
-        writer: after,
-        block: filled.block,
-        full: false,
+        writer: closed.state,
+        ..filled
     }
 }
 
-// All lines, to the first that cannot be written.
-fn send_all(rt: &(impl Print + Eprint), d: Damage) {
+// The line as bytes.
+fn write_line(rt: &impl Print, line: &[u16; 1716]) -> io::Result<()> {
+    let mut bytes = [0u8; 3432];
+    octets::bytes_of(line, &mut bytes);
+    rt.write_all(&bytes)
+}
+
+// All lines that the damage leaves, to the first that cannot be written.
+fn send_all(rt: &impl Print, d: Damage) -> io::Result<()> {
     let mut kept = Kept {
         writer: state::fresh_writer(0, 8),
         block: 0,
-        full: false,
     };
     let mut line = [0u16; 1716];
-    let mut more = true;
-    let mut turn = 0u16;
-    while turn < plan::LINES && more {
+    for turn in 0..plan::LINES {
         kept = next_line(kept, turn, &mut line);
-        more = send_line(rt, d, plan::number_of(turn), &mut line);
-        turn += 1;
+        if damage::is_left(d, plan::number_of(turn), &mut line) {
+            write_line(rt, &line)?;
+        }
     }
+    Ok(())
 }
 
+// Where a line could not be written it is said why, and where that cannot be said either, nothing is.
 fn main(rt: HostRuntime) {
-    let d = damage::asked(&rt);
-    if d.good {
-        send_all(&rt, d);
+    let Some(d) = damage::asked(&rt) else {
+        let _ = eprintln!(rt;
+            "sending: the words are none, lose LINE COUNT or spoil LINE; LINE is 520 to 525 or 1 to 6, and COUNT lines are sent from it on"
+        );
         return;
+    };
+    if let Err(e) = send_all(&rt, d) {
+        let _ = eprintln!(rt; "sending: standard output: {e}");
     }
-    let _ = eprintln!(rt;
-        "sending: the words are none, lose LINE COUNT or spoil LINE; LINE is 520 to 525 or 1 to 6, and COUNT lines are sent from it on"
-    );
 }

@@ -1,5 +1,5 @@
 // What is sent: the numbers of the lines, and the blocks with their types, lengths and values.
-ghost use Rattle.std.specs.Prelude.{◌≡◌, ◌≤◌, length};
+ghost use Rattle.std.specs.Prelude.{◌≤◌};
 
 use line::settings::Settings;
 
@@ -20,17 +20,17 @@ const COUNTS: [usize; 20] = [
 
 // The number of the line that is sent after so many others.
 pub(crate) fn number_of(turn: u16) -> u16 {
-    ((turn as u32 + FIRST as u32 - 1) % 525 + 1) as u16
+    ((u32::from(turn) + u32::from(FIRST) - 1) % 525 + 1) as u16
 }
 
 // How many lines are sent before the one with this number.
 pub(crate) fn turn_of(number: u16) -> u16 {
-    ((number as u32 + 525 - FIRST as u32) % 525) as u16
+    ((u32::from(number) + 525 - u32::from(FIRST)) % 525) as u16
 }
 
 // A line with this number is sent.
 pub(crate) fn is_sent(number: u16) -> bool {
-    (1 <= number) & (number <= 525) & (turn_of(number) < LINES)
+    1 <= number && number <= 525 && turn_of(number) < LINES
 }
 
 // The line has fixed blocks.
@@ -52,28 +52,16 @@ pub(crate) fn type_of(k: usize) -> u16 {
 pub(crate) fn count_of(k: usize) -> usize
     ensures { result ≤ 3000 }
 {
-    if k < BLOCKS {
-        return lists::smaller_of(COUNTS[k], 3000);
-    }
-    0
-}
-
-// The block after block k.
-pub(crate) fn after(k: usize) -> usize {
-    lists::smaller_of(k, BLOCKS) + 1
+    COUNTS.get(k).map_or(0, |n| (*n).min(3000))
 }
 
 // The values of a block: the first is its type, and each is 7 more than the one before, modulo 256.
-pub(crate) fn values_of(kind: u16) -> [u16; 3000]
-    ensures { length result ≡ 3000 }
-{
+pub(crate) fn values_of(kind: u16) -> [u16; 3000] {
     let mut s = [0u16; 3000];
-    let mut x = kind % 256;
-    let mut i = 0usize;
-    while i < 3000 {
-        s[i] = x;
-        x = (x + 7) % 256;
-        i += 1;
+    let mut x = kind;
+    for value in &mut s {
+        *value = x % 256;
+        x = x % 256 + 7;
     }
     s
 }

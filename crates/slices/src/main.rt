@@ -3,7 +3,7 @@
 // of `pace`, because a program that calls `read` and `read_within` has neither inlined.
 #![tactic(auto)]
 
-mod asked; // asked.rt: the words of the command line
+mod asked; // asked.rt: what is asked
 mod rounds; // rounds.rt: eight lines read in slices
 
 use std::io;

@@ -9,10 +9,8 @@ pub fn checksum_of(s: &[u16]) -> u16
     ensures { result ≡ checksum s.now }
 {
     let mut sum = 0u16;
-    let mut i = 0;
-    while i < s.len() {
-        sum = (sum + s[i] % 512) % 512;
-        i += 1;
+    for w in s {
+        sum = (sum + *w % 512) % 512;
     }
     forms::data_word(sum)
 }

@@ -62,10 +62,8 @@ fn crc_each(c: u32, s: &[u16]) -> u32
     ensures { result ≡ crc_of c s.now }
 {
     let mut x = c;
-    let mut i = 0;
-    while i < s.len() {
-        x = crc_word(x, s[i]);
-        i += 1;
+    for w in s {
+        x = crc_word(x, *w);
     }
     x
 }
@@ -76,9 +74,7 @@ fn beside(s: &[u16]) -> u64
     ensures { result ≡ packed s.now }
 {
     let mut z = 0u64;
-    let mut i = s.len();
-    while 0 < i {
-        i -= 1;
+    for i in (0..s.len()).rev() {
         z = z * 1024 + ten(s[i]);
     }
     z
@@ -100,24 +96,25 @@ fn crc_rest(c: u32, s: &[u16]) -> u32
     ensures { result ≡ crc_of c s.now }
 {
     if s.len() < 2 {
-        return crc_each(c, s);
+        crc_each(c, s)
+    } else {
+        crc_few(c, s)
     }
-    crc_few(c, s)
 }
 
-// The register after the words: six at a time, then what is left.
+// The register after the words: six at a time, then what is left. This loop and the two with 18 and 1,920 words are not one function that takes the step:
+// each step has a contract of its own, and a clause that says so of any step is longer than the loop.
 fn crc_short(c: u32, s: &[u16]) -> u32
     requires { c < 2 ^ 18 }
     ensures { result ≡ crc_of c s.now }
 {
     let mut x = c;
-    let mut i = 0;
-    while 6 <= s.len() - i {
-        let e = i + 6;
-        x = crc_six(x, &s[i..e]);
-        i = e;
+    let mut left = s;
+    while let Some((front, rest)) = left.split_first_chunk::<6>() {
+        x = crc_six(x, front);
+        left = rest;
     }
-    crc_rest(x, &s[i..])
+    crc_rest(x, left)
 }
 
 // The register after eighteen words. Their own register, from 0, does not wait for c; and c goes on over 180 bits at one step: so many bits that are 0 do
@@ -139,13 +136,12 @@ fn crc_folded(c: u32, s: &[u16]) -> u32
     ensures { result ≡ crc_of c s.now }
 {
     let mut x = c;
-    let mut i = 0;
-    while 18 <= s.len() - i {
-        let e = i + 18;
-        x = crc_eighteen(x, &s[i..e]);
-        i = e;
+    let mut left = s;
+    while let Some((front, rest)) = left.split_first_chunk::<18>() {
+        x = crc_eighteen(x, front);
+        left = rest;
     }
-    crc_short(x, &s[i..])
+    crc_short(x, left)
 }
 
 // The words of s go behind the first z words of f, each xored with those that stand z, z - a and z - b places before it.
@@ -153,10 +149,8 @@ fn gather(z: usize, a: usize, b: usize, s: &[u16], f: &mut [u16])
     requires { Folds z a b × (length s.now + z ≤ length f.old) }
     ensures { Gathered z a b s.now f.old f.new (length s.now) }
 {
-    let mut i = 0;
-    while i < s.len() {
+    for i in 0..s.len() {
         f[i + z] = s[i] ^ f[i + a] ^ f[i + b] ^ f[i];
-        i += 1;
     }
 }
 
@@ -165,10 +159,8 @@ fn mix(a: usize, b: usize, s: &[u16], f: &[u16], y: &mut [u16])
     requires { (length y.old ≡ length s.now) × ((a + length s.now ≤ length f.now) × (b + length s.now ≤ length f.now)) }
     ensures { crc_of 0 y.new ≡ mixed a b (length s.now) s.now f.now }
 {
-    let mut i = 0;
-    while i < s.len() {
+    for i in 0..s.len() {
         y[i] = s[i] ^ f[a + i] ^ f[b + i] ^ f[i];
-        i += 1;
     }
 }
 
@@ -187,10 +179,8 @@ fn onto(a: usize, n: usize, f: &mut [u16])
     requires { (n ≤ a) × (a + n ≤ length f.old) }
     ensures { Xored a f.old f.new n }
 {
-    let mut i = 0;
-    while i < n {
-        f[i + a] = f[i + a] ^ f[i];
-        i += 1;
+    for i in 0..n {
+        f[i + a] ^= f[i];
     }
 }
 
@@ -226,13 +216,12 @@ fn crc_pieces(c: u32, s: &[u16]) -> u32
     ensures { result ≡ crc_of c s.now }
 {
     let mut x = c;
-    let mut i = 0;
-    while 1920 <= s.len() - i {
-        let e = i + 1920;
-        x = crc_long(x, &s[i..e]);
-        i = e;
+    let mut left = s;
+    while let Some((front, rest)) = left.split_first_chunk::<1920>() {
+        x = crc_long(x, front);
+        left = rest;
     }
-    crc_short(x, &s[i..])
+    crc_short(x, left)
 }
 
 // The register after the words, from the register c. Few words are not worth folding.
@@ -240,13 +229,11 @@ pub fn crc_of(c: u32, s: &[u16]) -> u32
     ensures { result ≡ crc_of c s.now }
 {
     let x = c % 262144;
-    if s.len() < 456 {
-        return crc_short(x, s);
+    match s.len() {
+        0..456 => crc_short(x, s),
+        456..=1920 => crc_long(x, s),
+        _ => crc_pieces(x, s),
     }
-    if s.len() <= 1920 {
-        return crc_long(x, s);
-    }
-    crc_pieces(x, s)
 }
 
 // The register after 156 words of filler, from the register 0.
@@ -258,11 +245,9 @@ fn filler_far(c: u32, n: usize) -> u32
     ensures { result ≡ crc_of c (replicate (n * 156) 0x200) }
 {
     let mut x = c;
-    let mut left = n;
-    while 0 < left {
+    for _ in 0..n {
         let w = x as u64;
         x = after_sixty((w * 0x800000000) ^ (w * 0x1000) ^ (w * 8)) ^ FAR_FILLER;
-        left -= 1;
     }
     x
 }

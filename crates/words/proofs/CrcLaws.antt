@@ -8,7 +8,7 @@ use native.Mathlib.Omega.{arith}
 use lib.Dec.{lit<}
 use lib.Pow.{mod-mod-pow}
 use lib.Bits.{bit_xor, xor_lt, xor_mod}
-use lib.ListN.{length, drop, get_or, replicate, length-drop, take-append-drop, replicate-append-replicate}
+use lib.ListN.{length, take, drop, get_or, replicate, length-drop, take-append-drop, replicate-append-replicate}
 use lib.Seq.{take_all, drop-drop}
 use Rattle.lists.specs.Lists.{part}
 use Rattle.lists.proofs.Loops.{next_drop}
@@ -129,8 +129,12 @@ crc_turn r x y i n s e l =
     )
 
 -- what is left
-pub crc_rest : (r x y i : ℕ) (s : List ℕ) → y ≡ crc_of x (part i (length s - i) s) → crc_of x (drop i s) ≡ r → y ≡ r
-crc_rest r x y i s e l = e ∙ ap (crc_of x) (take_all (length s - i) (drop i s) (simp length-drop (omega arith))) ∙ l
+-- n words, which stand in front of the rest
+pub crc_front : (r x y n : ℕ) (s front rest : List ℕ) → front ≡ take n s → rest ≡ drop n s → y ≡ crc_of x front → crc_of x s ≡ r → (y < 2 ^ 18) × (crc_of y rest ≡ r)
+crc_front r x y n s front rest f d e l = (
+  subst (λ (z : ℕ). z < 2 ^ 18) (sym e) (crc_lt x front),
+  ap₂ crc_of (e ∙ ap (crc_of x) f) d ∙ sym (crc_append x (take n s) (drop n s)) ∙ ap (crc_of x) (take-append-drop n s) ∙ l,
+)
 
 -- k of the words of filler that are left, and m more
 pub filler_turn : (r x y left k m w : ℕ) → y ≡ crc_of x (replicate k w) → k + m ≡ left → crc_of x (replicate left w) ≡ r

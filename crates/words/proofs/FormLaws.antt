@@ -13,6 +13,9 @@ use lib.Bits.{bit_xor}
 use borrow.Author.Tests.{le-ltb, le-leb, eq-eqb, ne_eqb, ltb-true, eqb-true}
 use Rattle.lists.specs.Tests.{pick}
 use Rattle.lists.proofs.Tests.{true_false, agree, agree→eq, implies, implied, below, both_true, lt_or_le}
+use Rattle.std.specs.Prelude.{[], ◌∷◌}
+use Rattle.std.specs.Int.{to_le_bytes}
+use Rattle.std.proofs.Common.{w16}
 use Rattle.words.specs.Forms.{bit, xor_of, parity, data_word, byte_word, is_data, is_byte}
 use Rattle.words.specs.Modes.{values, word_of, value_of}
 
@@ -77,6 +80,10 @@ byte_above w =
     (lt_or_le w 1024)
 
 -- the same, with what stands above alone on its side
+-- the two bytes of a word
+pub two_bytes : (w : ℕ) → w < 65536 → to_le_bytes w16 w ≡ (w % 256) ∷ (w / 256) ∷ []
+two_bytes w h = let high : w / 256 % 256 ≡ w / 256 = omega arith in ap (λ (x : ℕ). (w % 256) ∷ x ∷ []) high
+
 pub byte_halves : (w p : ℕ) → p ≡ parity (w % 256) → p < 2 → eqb (w / 256) (2 - p) ≡ is_byte w
 byte_halves w p e h = go (eqb (w / 256) (2 - p)) refl ∙ ap (λ (q : ℕ). eqb (w / 256 + q) 2) e ∙ byte_above w
   where

@@ -72,10 +72,7 @@ pub fn classes() -> [u8; 1024]
 pub fn bit_in(t: &[u8; 1024], w: u16) -> u8
     ensures { result ≡ bit_in t.now w }
 {
-    if w < 1024 {
-        return t[w as usize];
-    }
-    16
+    if w < 1024 { t[usize::from(w)] } else { 16 }
 }
 
 // The class of a bit.
@@ -112,15 +109,17 @@ pub fn class_of(w: u16) -> Class
     ensures { (result ≡ class_of w) × (class_number result ≡ class_number_of w) }
 {
     if w == END_CODE {
-        return class_of_bit(bit_in(&classes(), END_CODE));
+        class_of_bit(bit_in(&classes(), END_CODE))
+    } else {
+        class_of_bit(bit_of(w))
     }
-    class_of_bit(bit_of(w))
 }
 
 // The word is 309h or 30Ah: what its class says, where only that is asked.
 pub fn is_code(w: u16) -> bool
     ensures { result ≡ is_code (class_of w) }
 {
+    // not `matches!`: its goals would be named by the constants' values, and the edit that changes one would fail by a name and not by a fact
     (w == SEPARATOR) | (w == END_CODE)
 }
 

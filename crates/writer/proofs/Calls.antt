@@ -1,33 +1,30 @@
 -- What the calls leave is what the definitions say.
 -- Assumes nothing.
+use Rattle.std.specs.Prelude.{Some, None, Option}
 use mathlib.Core.Path.{◌≡◌, refl, sym, ap, ap₂, ◌∙◌}
 use mathlib.Core.Bool.{true, false}
-use mathlib.Core.List.{List, [], ◌∷◌, ◌++◌, append-nil}
+use mathlib.Core.List.{List, [], ◌++◌, append-nil}
 use Prim.Native.Nat.{ℕ, ◌+◌, ◌-◌, ◌≤◌, ◌<◌, min}
-use native.Mathlib.Numerals.{add-one}
 use native.Mathlib.Omega.{arith}
 use lib.Dec.{eqb}
-use lib.ListN.{length, get_or, set, take, drop, replicate, length-drop, drop_of_length-le}
-use lib.Seq.{take_all, paste, sets-eq}
+use lib.ListN.{length, take, drop, length-drop}
+use lib.Seq.{take_all, paste}
 use borrow.Author.Tests.{eq-eqb, ne_eqb}
 use borrow.Rule.Slice.PartMut.{put_mid}
 use Rattle.lists.specs.Tests.{pick}
 use Rattle.lists.proofs.Tests.{pick_true, pick_false}
-use Rattle.words.specs.Crc.{crc_start, crc_of, register_words}
+use Rattle.words.specs.Crc.{crc_start, crc_of}
 use Rattle.line.specs.declared.systems.System.{System}
-use Rattle.course.specs.declared.Place.TheVariants.{Shut, At}
 use Rattle.line.specs.Systems.{system_of}
 use Rattle.line.specs.Fixed.{is_variable}
 use Rattle.line.specs.Layout.{payload_at, area_length}
 use Rattle.course.specs.Course.{place_of}
-use Rattle.writer.specs.declared.state.Rest.{Rest}
-use Rattle.writer.specs.declared.state.Rest.TheVariants.{NoBlock, Part}
 use Rattle.writer.specs.declared.state.Writer.{Writer}
 use Rattle.writer.specs.declared.state.Laid.{Laid}
 use Rattle.writer.specs.declared.state.Laid.TheVariants.{Refused as NotLaid, Finished, Unfinished}
 use Rattle.writer.specs.declared.state.Answer.TheVariants.{Refused, Done}
 use Rattle.writer.specs.Answers.{left, Added, added}
-use Rattle.writer.specs.State.{laid_of, end_in, moved}
+use Rattle.writer.specs.State.{laid_of, end_in, moved, unfinished}
 use Rattle.writer.specs.Block.{block_words, fixed_words, words_in}
 use Rattle.writer.specs.Adding.{add_fault, todo, fitting, adding}
 use Rattle.writer.specs.Closing.{close_fault, sealed, closing}
@@ -36,32 +33,9 @@ use Rattle.writer.proofs.BlockLaws.{words_variable, words_fixed, fixed_long, cou
 use Rattle.line.proofs.SystemLaws.{payload_most, length_most}
 use Rattle.writer.proofs.Refusals.{CanAdd, can_add}
 use Rattle.writer.proofs.Stays.{fixed_whole, fixed_room}
+use Rattle.writer.specs.declared.state.Part.{Part}
 
 -- ---- closing
--- the last two words stored
-pub last_two : (d : List ℕ) (e x y : ℕ) → length d ≡ e + 2 → set (set d e x) (e + 1) y ≡ take e d ++ (x ∷ y ∷ [])
-last_two d e x y h =
-    ap (λ (k : ℕ). set (set d e x) k y) (add-one e)
-    ∙ sets-eq (x ∷ y ∷ []) d e (omega arith)
-    ∙ ap (λ (r : List ℕ). (take e d ++ (x ∷ y ∷ [])) ++ r) (drop_of_length-le d {i = e + 2} (omega arith))
-    ∙ append-nil (take e d ++ (x ∷ y ∷ []))
-
--- what the stored CRC becomes over the filler that is left, and where it stands
-pub seal_is : (s : System) (flag place c : ℕ) (d two : List ℕ) (m crc lo hi : ℕ) → flag ≡ 1 → s.payload + 61 ≤ s.length → 2 ≤ s.payload
-    → s.length ≡ length d → m ≡ s.payload - 2 - place → crc ≡ crc_of c (replicate m 0x200) → two ≡ register_words crc → lo ≡ get_or two 0 0 → hi ≡ get_or two 1 0
-    → set (set d (s.length - 2) lo) (s.length - 2 + 1) hi ≡ sealed s flag place c d
-unfolding sealed area_length register_words
-seal_is s flag place c d two m crc lo hi one room area long hl hc ht hlo hhi =
-    let p = s.payload in
-    let e : s.length - 2 ≡ payload_at s + (p - 2) = omega arith in
-    let n : length d ≡ s.length - 2 + 2 = omega arith in
-    let short = pick_true (p - 2) p (eq-eqb flag 1 one) in
-    let t : two ≡ register_words (crc_of c (replicate (pick (eqb flag 1) (p - 2) p - place) 0x200)) =
-    ht ∙ ap register_words (hc ∙ ap (λ (x : ℕ). crc_of c (replicate x 0x200)) (hl ∙ ap (λ (x : ℕ). x - place) (sym short))) in
-    last_two d (s.length - 2) lo hi n
-    ∙ ap₂ (λ (x : ℕ) (r : List ℕ). take x d ++ r) (e ∙ ap (λ (x : ℕ). payload_at s + x) (sym short))
-    (ap₂ (λ (x y : ℕ). x ∷ y ∷ []) (hlo ∙ ap (λ (l : List ℕ). get_or l 0 0) t) (hhi ∙ ap (λ (l : List ℕ). get_or l 1 0) t) ∙ sym (pick_true _ [] (eq-eqb flag 1 one)))
-
 -- with another flag nothing is written
 pub seal_none : (s : System) (flag place c : ℕ) (d : List ℕ) → (flag ≡ 1 → ⊥) → s.payload + 61 ≤ s.length → s.length ≡ length d → d ≡ sealed s flag place c d
 unfolding sealed area_length
@@ -78,7 +52,7 @@ module _ (w : Writer) (line : List ℕ) (fault : ℕ) (is : fault ≡ close_faul
   unfolding closing
   close_refused h = ap (λ (n : ℕ). left (Refused n) w line) is ∙ sym (pick_false _ _ (ne_eqb _ _ (λ e. h (is ∙ e))))
 
-  pub close_done : fault ≡ 0 → (st : Writer) (l : List ℕ) → st ≡ moved w Shut w.rest crc_start
+  pub close_done : fault ≡ 0 → (st : Writer) (l : List ℕ) → st ≡ moved w None w.rest crc_start
       → l ≡ sealed (system_of w.system) w.settings.flag (place_of w.place) w.crc line → left Done st l ≡ closing w line
   unfolding closing
   close_done h st l s e = ap₂ (left Done) s e ∙ sym (pick_true _ _ (eq-eqb _ _ (sym is ∙ h)))
@@ -112,7 +86,7 @@ pub record Sizes (p j k a kind n long total : ℕ) : Type 0 where
 abbrev leaves : Writer → List ℕ → ℕ → List ℕ → ℕ → ℕ → ℕ → ℕ → ℕ → Added
 leaves w line kind vs p j rest k a =
     added (pick (eqb k rest) Finished Unfinished)
-    (moved w (At (p + k)) (pick (eqb k rest) NoBlock (Part kind (length vs) (j + k))) (crc_of w.crc (take k (drop j (words_in w.settings.block w.mode kind vs)))))
+    (moved w (Some (p + k)) (pick (eqb k rest) None (unfinished kind (length vs) (j + k))) (crc_of w.crc (take k (drop j (words_in w.settings.block w.mode kind vs)))))
     (paste line a (drop j (words_in w.settings.block w.mode kind vs)) k)
 
 module _ {w : Writer} {line : List ℕ} {kind : ℕ} {vs : List ℕ} {p j rest k a : ℕ} (f : Found w line kind vs p j rest k a) where
@@ -148,11 +122,11 @@ module _ {w : Writer} {line : List ℕ} {kind : ℕ} {vs : List ℕ} {p j rest k
       → put_mid a (a + k - a) line ys ≡ paste line a (drop j (words_in w.settings.block w.mode kind vs)) k
   pasted ys hy = mid_paste line (drop j (words_in w.settings.block w.mode kind vs)) ys a k within hy
 
-  add_done : (ys : List ℕ) (after : Rest) (c : ℕ) (answer : Laid) (st : Writer)
+  add_done : (ys : List ℕ) (after : Option Part) (c : ℕ) (answer : Laid) (st : Writer)
       → ys ≡ take (length (take (a + k - a) (drop a line))) (drop j (words_in w.settings.block w.mode kind vs))
-      → after ≡ pick (eqb k rest) NoBlock (Part kind (length vs) (j + k)) → c ≡ crc_of w.crc (take k (drop j (words_in w.settings.block w.mode kind vs)))
+      → after ≡ pick (eqb k rest) None (unfinished kind (length vs) (j + k)) → c ≡ crc_of w.crc (take k (drop j (words_in w.settings.block w.mode kind vs)))
       → answer ≡ pick (eqb k rest) Finished Unfinished
-      → st ≡ moved w (At (p + k)) after c → added answer st (put_mid a (a + k - a) line ys) ≡ adding w line kind vs
+      → st ≡ moved w (Some (p + k)) after c → added answer st (put_mid a (a + k - a) line ys) ≡ adding w line kind vs
   unfolding adding
   add_done ys after c answer st hy hr taken ht hs =
       let ws = todo w kind vs in
@@ -173,10 +147,10 @@ module _ {w : Writer} {line : List ℕ} {kind : ℕ} {vs : List ℕ} {p j rest k
 -- ---- adding in a variable line
 -- the words laid, and the CRC over them
 part_by : {w : Writer} {line : List ℕ} {kind : ℕ} {vs : List ℕ} {p j rest k a : ℕ} → Found w line kind vs p j rest k a
-    → is_variable w.settings.block ≡ true → (ys : List ℕ) (after : Rest) (c : ℕ) (answer : Laid) (st : Writer)
+    → is_variable w.settings.block ≡ true → (ys : List ℕ) (after : Option Part) (c : ℕ) (answer : Laid) (st : Writer)
     → ys ≡ take (length (take (a + k - a) (drop a line))) (drop j (block_words w.mode kind vs))
-    → after ≡ pick (eqb k rest) NoBlock (Part kind (length vs) (j + k)) → c ≡ crc_of w.crc ys
-    → answer ≡ pick (eqb k rest) Finished Unfinished → st ≡ moved w (At (p + k)) after c
+    → after ≡ pick (eqb k rest) None (unfinished kind (length vs) (j + k)) → c ≡ crc_of w.crc ys
+    → answer ≡ pick (eqb k rest) Finished Unfinished → st ≡ moved w (Some (p + k)) after c
     → added answer st (put_mid a (a + k - a) line ys) ≡ adding w line kind vs
 part_by {w} {line} {kind} {vs} {p} {j} {rest} {k} {a} f v ys after c answer st e hr hc =
     let words : ys ≡ take (length (take (a + k - a) (drop a line))) (drop j (words_in w.settings.block w.mode kind vs)) =
@@ -187,18 +161,18 @@ part_by {w} {line} {kind} {vs} {p} {j} {rest} {k} {a} f v ys after c answer st e
 -- all that is left of the block
 pub part_whole_done : {w : Writer} {line : List ℕ} {kind : ℕ} {vs : List ℕ} {p j k a : ℕ} → Found w line kind vs p j k k a → is_variable w.settings.block ≡ true
     → (ys : List ℕ) (c : ℕ) → ys ≡ take (length (take (a + k - a) (drop a line))) (drop j (block_words w.mode kind vs)) → c ≡ crc_of w.crc ys
-    → added Finished (moved w (At (p + k)) NoBlock c) (put_mid a (a + k - a) line ys) ≡ adding w line kind vs
+    → added Finished (moved w (Some (p + k)) None c) (put_mid a (a + k - a) line ys) ≡ adding w line kind vs
 part_whole_done {w} {line} {kind} {vs} {p} {j} {k} {a} f v ys c e hc =
     let all = eq-eqb k k refl in
-    part_by f v ys NoBlock c Finished _ e (sym (pick_true NoBlock (Part kind (length vs) (j + k)) all)) hc (sym (pick_true Finished Unfinished all)) refl
+    part_by f v ys None c Finished _ e (sym (pick_true None (unfinished kind (length vs) (j + k)) all)) hc (sym (pick_true Finished Unfinished all)) refl
 
 -- and where the line is full before
 pub part_cut_done : {w : Writer} {line : List ℕ} {kind : ℕ} {vs : List ℕ} {p j rest k a : ℕ} → Found w line kind vs p j rest k a → is_variable w.settings.block ≡ true
     → k < rest → (ys : List ℕ) (c : ℕ) → ys ≡ take (length (take (a + k - a) (drop a line))) (drop j (block_words w.mode kind vs)) → c ≡ crc_of w.crc ys
-    → added Unfinished (moved w (At (p + k)) (Part kind (length vs) (j + k)) c) (put_mid a (a + k - a) line ys) ≡ adding w line kind vs
+    → added Unfinished (moved w (Some (p + k)) (unfinished kind (length vs) (j + k)) c) (put_mid a (a + k - a) line ys) ≡ adding w line kind vs
 part_cut_done {w} {line} {kind} {vs} {p} {j} {rest} {k} {a} f v less ys c e hc =
     let some = ne_eqb k rest (λ z. omega (arith, less, z)) in
-    part_by f v ys (Part kind (length vs) (j + k)) c Unfinished _ e (sym (pick_false NoBlock (Part kind (length vs) (j + k)) some)) hc
+    part_by f v ys (unfinished kind (length vs) (j + k)) c Unfinished _ e (sym (pick_false None (unfinished kind (length vs) (j + k)) some)) hc
     (sym (pick_false Finished Unfinished some)) refl
 
 -- ---- adding in a fixed line: all words of the block are laid now
@@ -218,7 +192,7 @@ place_found w line kind vs clear v p a hp ha =
 pub place_done : {w : Writer} {line : List ℕ} {kind : ℕ} {vs : List ℕ} {p a : ℕ} → Found w line kind vs p 0 (length vs + 1) (length vs + 1) a
     → is_variable w.settings.block ≡ false → (ys : List ℕ) (c : ℕ) (st : Writer) → ys ≡ fixed_words w.mode kind vs
     → c ≡ crc_of w.crc ys
-    → st ≡ moved w (At (p + (length vs + 1))) NoBlock c → added Finished st (put_mid a (a + (length vs + 1) - a) line ys) ≡ adding w line kind vs
+    → st ≡ moved w (Some (p + (length vs + 1))) None c → added Finished st (put_mid a (a + (length vs + 1) - a) line ys) ≡ adding w line kind vs
 place_done {w} {line} {kind} {vs} {p} {a} f v ys c st e hc hs =
     let all = words_fixed w.settings.block w.mode kind vs v in
     let many = part_whole line a (length vs + 1) (sizes f).within in
@@ -226,6 +200,6 @@ place_done {w} {line} {kind} {vs} {p} {a} f v ys c st e hc hs =
     let k = length (take (a + (length vs + 1) - a) (drop a line)) in
     let whole = eq-eqb (length vs + 1) (length vs + 1) refl in
     let words = e ∙ sym (take_all k (fixed_words w.mode kind vs) (omega (arith, many, long))) ∙ ap (take k) (sym all) in
-    add_done f ys NoBlock c Finished st words
-    (sym (pick_true NoBlock (Part kind (length vs) (0 + (length vs + 1))) whole))
+    add_done f ys None c Finished st words
+    (sym (pick_true None (unfinished kind (length vs) (0 + (length vs + 1))) whole))
     (hc ∙ ap (crc_of w.crc) (words ∙ ap (λ (n : ℕ). take n (words_in w.settings.block w.mode kind vs)) many)) (sym (pick_true Finished Unfinished whole)) hs

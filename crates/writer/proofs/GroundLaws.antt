@@ -1,5 +1,6 @@
 -- What an addition finds where neither 1 nor 2 holds: the same as `adding` asks of the writer.
 -- Assumes nothing.
+use Rattle.std.specs.Prelude.{Some, None}
 use mathlib.Core.Path.{◌≡◌, refl, sym, ap, ap₂, ◌∙◌}
 use mathlib.Core.Bool.{Bool, true, false, ◌||◌, not}
 use mathlib.Core.List.{List, [], ◌∷◌}
@@ -15,16 +16,14 @@ use Rattle.blocks.specs.Laid.{laid_in, laid_on, crc_in}
 use Rattle.blocks.proofs.LaidLaws.{fills, part_laid}
 use Rattle.line.specs.Fixed.{is_variable, size_of}
 use Rattle.line.proofs.SystemLaws.{length_most}
-use Rattle.course.specs.declared.Place.TheVariants.{At}
 use Rattle.course.specs.Course.{is_at, place_of}
 use Rattle.writer.specs.declared.state.Writer.{Writer}
-use Rattle.writer.specs.declared.state.Rest.TheVariants.{NoBlock, Part}
 use Rattle.writer.specs.declared.state.Laid.{Laid}
 use Rattle.writer.specs.declared.state.Laid.TheVariants.{Finished, Unfinished}
 use Rattle.writer.specs.declared.adding.Ground.{Ground}
 use Rattle.writer.specs.declared.adding.Held.{Held}
 use Rattle.writer.specs.declared.adding.Step.{Step}
-use Rattle.writer.specs.State.{laid_of, impossible, end_in, moved}
+use Rattle.writer.specs.State.{laid_of, impossible, end_in, moved, unfinished}
 use Rattle.writer.specs.Answers.{added}
 use Rattle.writer.specs.Block.{block_words, fixed_words}
 use Rattle.writer.specs.Adding.{valued, ill_shaped, is_full, is_other, add_faults, add_fault, adding}
@@ -148,14 +147,14 @@ module _ {w : Writer} {g : Ground} {h : Held} (line : List ℕ) (s : Stands w g 
 
     pub whole_laid : length vs + 7 - j ≤ g.end - p
         → ys ≡ take (length (take (g.start + p + (length vs + 7 - j) - (g.start + p)) (drop (g.start + p) line))) (drop j (block_words g.mode kind vs))
-        → added Finished (moved w (At (p + (length vs + 7 - j))) NoBlock c) (put_mid (g.start + p) (g.start + p + (length vs + 7 - j) - (g.start + p)) line ys) ≡ adding (held_by w h) line kind vs
+        → added Finished (moved w (Some (p + (length vs + 7 - j))) None c) (put_mid (g.start + p) (g.start + p + (length vs + 7 - j) - (g.start + p)) line ys) ≡ adding (held_by w h) line kind vs
     whole_laid fits hy =
         part_whole_done (part_stands v p j (length vs + 7 - j) hp hj (sym (min_second (g.end - p) (length vs + 7 - j) fits))) (varies_by s v) ys c
         (words_by g.mode (g.start + p) (length vs + 7 - j) s.grounds.mode hy) hc
 
     pub cut_laid : g.end - p < length vs + 7 - j
         → ys ≡ take (length (take (g.start + p + (g.end - p) - (g.start + p)) (drop (g.start + p) line))) (drop j (block_words g.mode kind vs))
-        → added Unfinished (moved w (At (p + (g.end - p))) (Part kind (length vs) (j + (g.end - p))) c) (put_mid (g.start + p) (g.start + p + (g.end - p) - (g.start + p)) line ys) ≡ adding (held_by w h) line kind vs
+        → added Unfinished (moved w (Some (p + (g.end - p))) (unfinished kind (length vs) (j + (g.end - p))) c) (put_mid (g.start + p) (g.start + p + (g.end - p) - (g.start + p)) line ys) ≡ adding (held_by w h) line kind vs
     cut_laid less hy =
         part_cut_done (part_stands v p j (g.end - p) hp hj (sym (min_first (g.end - p) (length vs + 7 - j) less))) (varies_by s v) less ys c
         (words_by g.mode (g.start + p) (g.end - p) s.grounds.mode hy) hc

@@ -1,5 +1,6 @@
 -- Refusals change nothing, and what each call leaves by its fault.
 -- Assumes nothing.
+use Rattle.std.specs.Prelude.{None}
 use mathlib.Core.Path.{◌≡◌, refl}
 use mathlib.Core.Bool.{Bool, true, false}
 use mathlib.Core.List.{List}
@@ -12,7 +13,6 @@ use Rattle.lists.specs.Tests.{pick}
 use Rattle.lists.proofs.Tests.{pick_true, pick_false}
 use Rattle.words.specs.Crc.{crc_start}
 use Rattle.line.specs.declared.settings.Settings.{Settings}
-use Rattle.course.specs.declared.Place.TheVariants.{Shut}
 use Rattle.line.specs.Systems.{system_of}
 use Rattle.course.specs.Course.{place_of}
 use Rattle.writer.specs.declared.state.Writer.{Writer}
@@ -56,7 +56,7 @@ module _ (w : Writer) (line : List ℕ) where
   close_clear e = eqb-true _ _ (done_or (eqb (close_fault w (length line)) 0) _ _ _ _ _ e)
 
   pub close_leaves : close_fault w (length line) ≡ 0
-      → closing w line ≡ left Done (moved w Shut w.rest crc_start) (sealed (system_of w.system) w.settings.flag (place_of w.place) w.crc line)
+      → closing w line ≡ left Done (moved w None w.rest crc_start) (sealed (system_of w.system) w.settings.flag (place_of w.place) w.crc line)
   unfolding closing
   close_leaves e = pick_true _ _ (eq-eqb _ _ e)
 

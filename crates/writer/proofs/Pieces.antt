@@ -1,6 +1,7 @@
 -- One accepted addition: the piece that it lays of a block, and what is left of the block; and the words of a block whose values come from two calls.
 -- What the pieces of a course of calls are together is demand 2 (demands/specs/Demand2.antt: `blocks`).
 -- Assumes nothing.
+use Rattle.std.specs.Prelude.{Option}
 use mathlib.Core.Path.{◌≡◌, refl, sym, ap, ap₂, ◌∙◌}
 use mathlib.Core.Bool.{Bool, true, false}
 use mathlib.Core.List.{List, [], ◌∷◌, ◌++◌, map, map-append, append_assoc}
@@ -20,12 +21,10 @@ use Rattle.line.specs.Systems.{system_of}
 use Rattle.line.specs.Fixed.{is_variable}
 use Rattle.line.specs.Layout.{payload_at}
 use Rattle.course.specs.Course.{place_of}
-use Rattle.writer.specs.declared.state.Rest.{Rest}
-use Rattle.writer.specs.declared.state.Rest.TheVariants.{Part}
 use Rattle.writer.specs.declared.state.Writer.{Writer}
 use Rattle.writer.specs.declared.state.Laid.{Laid}
 use Rattle.writer.specs.declared.state.Laid.TheVariants.{Finished, Unfinished}
-use Rattle.writer.specs.State.{laid_of}
+use Rattle.writer.specs.State.{laid_of, unfinished}
 use Rattle.writer.specs.Block.{count_words, block_words, fixed_words}
 use Rattle.writer.specs.Answers.{laid_numbers, Added}
 use Rattle.writer.specs.Adding.{add_fault, todo, fitting, adding}
@@ -36,6 +35,7 @@ use Rattle.writer.proofs.FillLaws.{piece_law}
 use Rattle.writer.proofs.Writing.{either}
 use Rattle.writer.proofs.BlockLaws.{words_fixed}
 use Rattle.writer.proofs.Stays.{fixed_whole, fixed_fits}
+use Rattle.writer.specs.declared.state.Part.{Part}
 
 -- ---- one addition
 done_or : (b : Bool) → pick b Finished Unfinished ≡ Finished → b ≡ true
@@ -92,7 +92,7 @@ module _ (w : Writer) (line : List ℕ) (kind : ℕ) (vs : List ℕ) where
     pub some_left : (adding w line kind vs).answer ≡ Unfinished → eqb k (length ws) ≡ false
     some_left e = left_or _ (sym answer_is ∙ e)
 
-    pub rest_left : (adding w line kind vs).answer ≡ Unfinished → (adding w line kind vs).state.rest ≡ Part kind (length vs) (laid_of w.rest + k)
+    pub rest_left : (adding w line kind vs).answer ≡ Unfinished → (adding w line kind vs).state.rest ≡ unfinished kind (length vs) (laid_of w.rest + k)
     rest_left e = ap (λ (x : Added). x.state.rest) (add_leaves w line kind vs ok) ∙ pick_false _ _ (some_left e)
 
     pub varies : (adding w line kind vs).answer ≡ Unfinished → is_variable w.settings.block ≡ true
@@ -109,7 +109,7 @@ module _ (w : Writer) (line : List ℕ) (kind : ℕ) (vs : List ℕ) where
         let all = fixed_fits w line kind vs ok v in
         let done : (adding w line kind vs).answer ≡ Finished = answer_is ∙ pick_true _ _ (eq-eqb k (length ws) all) in (
           done,
-          all_laid done ∙ ap₂ (λ (r : Rest) (l : List ℕ). drop (laid_of r) l) (fixed_whole w line kind vs ok v) (words_fixed w.settings.block w.mode kind vs v),
+          all_laid done ∙ ap₂ (λ (r : Option Part) (l : List ℕ). drop (laid_of r) l) (fixed_whole w line kind vs ok v) (words_fixed w.settings.block w.mode kind vs v),
         )
 
 -- ---- a block of values from two calls: the j first words are of the first call, the others of the second

@@ -1,5 +1,6 @@
 -- Places stand one after another from payload word 0: on a fixed line the addition behind k others is laid from payload word k * size on.
 -- Assumes nothing.
+use Rattle.std.specs.Prelude.{Option, Some}
 use mathlib.Core.Path.{◌≡◌, refl, sym, ap, ap₂, ◌∙◌}
 use mathlib.Core.Bool.{false}
 use mathlib.Core.List.{List}
@@ -12,8 +13,6 @@ use Rattle.line.specs.declared.settings.Settings.{Settings}
 use Rattle.line.specs.Systems.{system_of}
 use Rattle.line.specs.Fixed.{is_variable, size_of}
 use Rattle.line.specs.Layout.{payload_at}
-use Rattle.course.specs.declared.Place.{Place}
-use Rattle.course.specs.declared.Place.TheVariants.{At}
 use Rattle.course.specs.Course.{place_of}
 use Rattle.writer.specs.declared.state.Writer.{Writer}
 use Rattle.writer.specs.Block.{fixed_words}
@@ -33,10 +32,10 @@ pub data Additions (w : Writer) (line : List ℕ) : ℕ → Writer → List ℕ 
 -- ---- one addition
 module _ (w : Writer) (line : List ℕ) (kind : ℕ) (vs : List ℕ) (ok : add_fault w (length line) kind vs ≡ 0) (fixed : is_variable w.settings.block ≡ false) where
   -- the next place is one size on
-  next_place : (adding w line kind vs).state.place ≡ At (place_of w.place + size_of w.settings.block)
+  next_place : (adding w line kind vs).state.place ≡ Some (place_of w.place + size_of w.settings.block)
   next_place =
       ap (λ (x : Added). x.state.place) (add_leaves w line kind vs ok)
-      ∙ ap (λ (k : ℕ). At (place_of w.place + k)) (fixed_fits w line kind vs ok fixed ∙ fixed_size w line kind vs ok fixed)
+      ∙ ap (λ (k : ℕ). Some (place_of w.place + k)) (fixed_fits w line kind vs ok fixed ∙ fixed_size w line kind vs ok fixed)
 
   kept_settings : (adding w line kind vs).state.settings ≡ w.settings
   kept_settings = ap (λ (x : Added). x.state.settings) (add_leaves w line kind vs ok)
@@ -48,7 +47,7 @@ module _ (w : Writer) (line : List ℕ) (kind : ℕ) (vs : List ℕ) (ok : add_f
   laid_here : part (payload_at (system_of w.system) + place_of w.place) (size_of w.settings.block) (adding w line kind vs).line ≡ fixed_words w.mode kind vs
   unfolding piece_of
   laid_here =
-      let e : place_of (adding w line kind vs).state.place - place_of w.place ≡ size_of w.settings.block = ap (λ (p : Place). place_of p - place_of w.place) next_place ∙ omega arith in
+      let e : place_of (adding w line kind vs).state.place - place_of w.place ≡ size_of w.settings.block = ap (λ (p : Option ℕ). place_of p - place_of w.place) next_place ∙ omega arith in
       ap (λ (n : ℕ). part (payload_at (system_of w.system) + place_of w.place) n (adding w line kind vs).line) (sym e) ∙ (fixed_once w line kind vs ok fixed).1
 
 -- ---- additions on a line that is just opened
@@ -71,14 +70,14 @@ filled_next w w' line k kind vs fixed ok f =
       place = omega (arith, f.place);
     }
 
-pub place_after : (w : Writer) (line : List ℕ) → w.place ≡ At 0 → is_variable w.settings.block ≡ false
+pub place_after : (w : Writer) (line : List ℕ) → w.place ≡ Some 0 → is_variable w.settings.block ≡ false
     → (k : ℕ) (w' : Writer) (line' : List ℕ) → Additions w line k w' line' → Filled w k w'
 place_after w line at fixed _ _ _ start = record { settings = refl; system = refl; place = ap place_of at ∙ sym (zero-mul (size_of w.settings.block)) }
 place_after w line at fixed _ _ _ (then {k} {w'} {line'} earlier kind vs ok) =
     filled_next w w' line' k kind vs fixed ok (place_after w line at fixed k w' line' earlier)
 
 -- behind k additions on a fixed line that was at its start, the next block's words stand at payload word k * size
-pub place_laid : (w : Writer) (line : List ℕ) → w.place ≡ At 0 → is_variable w.settings.block ≡ false
+pub place_laid : (w : Writer) (line : List ℕ) → w.place ≡ Some 0 → is_variable w.settings.block ≡ false
     → (k : ℕ) (w' : Writer) (line' : List ℕ) → Additions w line k w' line'
     → (kind : ℕ) (vs : List ℕ) → add_fault w' (length line') kind vs ≡ 0
     → part (payload_at (system_of w.system) + k * size_of w.settings.block) (size_of w.settings.block) (adding w' line' kind vs).line ≡ fixed_words w'.mode kind vs

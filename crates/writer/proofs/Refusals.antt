@@ -1,5 +1,6 @@
 -- What a fault number 0 says, and what a possible state has.
 -- Assumes nothing.
+use Rattle.std.specs.Prelude.{Option, Some, None}
 use mathlib.Core.Path.{◌≡◌, sym}
 use mathlib.Core.Bool.{Bool, true, false, ◌&&◌, ◌||◌, not}
 use mathlib.Core.List.{List}
@@ -12,8 +13,6 @@ use Rattle.lists.proofs.Tests.{true_false, or_right, or_false, false_or, both_tr
 use Rattle.lists.proofs.Refusals.{lowest_clear, clear_lowest, clear_append, clear_split}
 use Rattle.words.specs.Modes.{is_mode}
 use Rattle.line.specs.declared.settings.Settings.{Settings}
-use Rattle.course.specs.declared.Place.{Place}
-use Rattle.course.specs.declared.Place.TheVariants.{Shut, At}
 use Rattle.line.specs.Systems.{system_of, is_system}
 use Rattle.line.specs.Fixed.{is_variable}
 use Rattle.line.specs.Settings.{settings_faults, settings_fault, same_settings}
@@ -24,8 +23,6 @@ use Rattle.line.proofs.CheckLaws.{settings_rising}
 use Rattle.line.proofs.AreaLaws.{area_most}
 use Rattle.course.proofs.CourseLaws as laws
 use Rattle.course.proofs.CourseLaws.{end_in_area}
-use Rattle.writer.specs.declared.state.Rest.{Rest}
-use Rattle.writer.specs.declared.state.Rest.TheVariants.{NoBlock, Part}
 use Rattle.writer.specs.declared.state.Writer.{Writer}
 use Rattle.writer.specs.State.{most, is_part, laid_of, misshapen, overlong, overfull, impossible, end_in}
 use Rattle.writer.specs.Adding.{valued, ill_shaped, is_full, is_other, add_faults, add_fault}
@@ -33,6 +30,7 @@ use Rattle.writer.specs.Opening.{is_next, open_blocked, open_faults, open_fault}
 use Rattle.writer.specs.Closing.{close_faults, close_fault}
 use Rattle.writer.proofs.StateLaws.{open_rising, add_rising, close_rising}
 use Rattle.writer.proofs.BlockLaws.{count, count_variable, count_between}
+use Rattle.writer.specs.declared.state.Part.{Part}
 
 -- ---- 1, 18, 19
 fit_of : (w : Writer) (line : List ℕ) → not (fits_length w.system w.mode (length line)) ≡ false → (is_system w.system ≡ true) × Fit w.system w.mode line
@@ -41,16 +39,16 @@ fit_of w line e =
     let f = not-false _ e in
     ((both_true (is_system w.system) _ f).0, fitting w.system w.mode line f)
 
-shape_of : (place : Place) (block kind n : ℕ) → ill_shaped place block kind n ≡ false → (n ≤ most) × (kind < 256)
+shape_of : (place : Option ℕ) (block kind n : ℕ) → ill_shaped place block kind n ≡ false → (n ≤ most) × (kind < 256)
 unfolding ill_shaped
 shape_of place block kind n e =
     let a = or_false (ltb most n) _ e in
     let k = ltb-false 255 kind (or_false (ltb 255 kind) _ a.1).0 in
     (ltb-false most n a.0, omega arith)
 
-room_of_place : (end : ℕ) (place : Place) → is_at place ≡ true → is_full end place ≡ false → place_of place < end
-room_of_place end Shut o e = absurd (true_false (sym o))
-room_of_place end (At p) o e = leb-false end p e
+room_of_place : (end : ℕ) (place : Option ℕ) → is_at place ≡ true → is_full end place ≡ false → place_of place < end
+room_of_place end None o e = absurd (true_false (sym o))
+room_of_place end (Some p) o e = leb-false end p e
 
 -- ---- what a possible state holds with a line or a block begun
 pub record Begun (w : Writer) : Type 0 where
@@ -72,13 +70,13 @@ unfolding impossible
 possible_by w b = false_or (laws.begun_possible w.system w.last w.settings w.place (is_part w.rest) b.course) (false_or b.shaped (false_or b.short b.gapped))
 
 -- ---- an unfinished block has a word left
-laid_below : (block : ℕ) (rest : Rest) (kind n : ℕ) → (is_part rest && not (is_variable block)) ≡ false → misshapen rest ≡ false → is_other rest kind n ≡ false
+laid_below : (block : ℕ) (rest : Option Part) (kind n : ℕ) → (is_part rest && not (is_variable block)) ≡ false → misshapen rest ≡ false → is_other rest kind n ≡ false
     → laid_of rest < count block n
-laid_below block NoBlock kind n v m o = (count_between block n).0
-laid_below block (Part k c j) kind n v m o =
-    let a = (or_false (ltb most c) _ m).1 in
-    let b = ltb-false (c + 6) j (or_false (ltb j 1) (ltb (c + 6) j) a).1 in
-    let e = eqb-true c n (both_true (eqb k kind) (eqb c n) (not-false _ o)).1 in
+laid_below block None kind n v m o = (count_between block n).0
+laid_below block (Some p) kind n v m o =
+    let a = (or_false (ltb most p.count) _ m).1 in
+    let b = ltb-false (p.count + 6) p.laid (or_false (ltb p.laid 1) (ltb (p.count + 6) p.laid) a).1 in
+    let e = eqb-true p.count n (both_true (eqb p.kind kind) (eqb p.count n) (not-false _ o)).1 in
     rw (count_variable block n (not-false _ v)) (omega arith)
 
 -- ---- what an accepted opening finds

@@ -1,5 +1,6 @@
 -- A possible state stays possible, whatever is called and however it is answered: answer 2 never follows from a fresh writer.
 -- Assumes nothing.
+use Rattle.std.specs.Prelude.{Option, Some, None}
 use mathlib.Core.Path.{◌≡◌, refl, sym, ap, ap₂, ◌∙◌, subst}
 use mathlib.Core.Bool.{Bool, true, false, ◌&&◌, ◌||◌, not}
 use mathlib.Core.List.{List}
@@ -15,22 +16,18 @@ use Rattle.lists.proofs.Refusals.{given_holds}
 use Rattle.words.specs.Crc.{crc_start, crc_of}
 use Rattle.words.proofs.CrcLaws.{crc_lt}
 use Rattle.line.specs.declared.settings.Settings.{Settings}
-use Rattle.course.specs.declared.Place.{Place}
-use Rattle.course.specs.declared.Place.TheVariants.{Shut, At}
 use Rattle.line.specs.Systems.{system_of}
 use Rattle.line.specs.Fixed.{size_of, is_variable}
 use Rattle.line.specs.Settings.{settings_faults}
 use Rattle.course.specs.Course.{is_at, place_of, misplaced, impossible_after}
 use Rattle.course.proofs.CourseLaws.{at_place, start_placed, begins, variable_placed, grid_next, grid_room}
-use Rattle.writer.specs.declared.state.Rest.{Rest}
-use Rattle.writer.specs.declared.state.Rest.TheVariants.{NoBlock, Part}
 use Rattle.writer.specs.declared.state.Writer.{Writer}
 use Rattle.writer.specs.declared.state.Answer.{Answer}
 use Rattle.writer.specs.declared.state.Answer.TheVariants.{Refused, Done}
 use Rattle.writer.specs.declared.state.Laid.{Laid}
 use Rattle.writer.specs.declared.state.Laid.TheVariants.{Refused as NotLaid, Finished, Unfinished}
 use Rattle.packets.specs.Listing.{gap_length}
-use Rattle.writer.specs.State.{most, is_part, laid_of, fresh, misshapen, overlong, overfull, impossible, end_in, moved, open_state, used_to}
+use Rattle.writer.specs.State.{most, is_part, laid_of, fresh, misshapen, overlong, overfull, impossible, end_in, moved, open_state, used_to, unfinished}
 use Rattle.writer.specs.Packing.{pack_faults, pack_fault, packing}
 use Rattle.writer.proofs.Packs.{can_pack}
 use Rattle.writer.specs.Block.{words_in}
@@ -40,9 +37,10 @@ use Rattle.writer.specs.Adding.{ill_shaped, is_other, add_faults, add_fault, tod
 use Rattle.writer.specs.Closing.{close_faults, close_fault, closing}
 use Rattle.writer.proofs.BlockLaws.{words_variable, words_fixed, block_long, fixed_long}
 use Rattle.writer.proofs.Refusals.{Begun, begun, possible_by, can_open, CanAdd, can_add, can_close}
+use Rattle.writer.specs.declared.state.Part.{Part}
 
 -- another place, rest and CRC in a line that is begun
-moved_begun : (w : Writer) (p : Place) (r : Rest) (c : ℕ) → Begun w → misplaced (system_of w.system).payload w.settings.block w.settings.flag p ≡ false
+moved_begun : (w : Writer) (p : Option ℕ) (r : Option Part) (c : ℕ) → Begun w → misplaced (system_of w.system).payload w.settings.block w.settings.flag p ≡ false
     → (is_part r && not (is_variable w.settings.block)) ≡ false → misshapen r ≡ false → overlong c ≡ false → Begun (moved w p r c)
 moved_begun w p r c b x y z u =
     let h = b.course in
@@ -66,7 +64,7 @@ open_begun w n t long ok =
     let kept = parts_of w o.state in
     let part = is_part w.rest in
     record {
-      course = begins w.system w.last w.settings t w.place (At 0) part part n kept.0 range o.clean (start_placed w.system t o.clean) (λ e. (e, (o.goes e).0));
+      course = begins w.system w.last w.settings t w.place (Some 0) part part n kept.0 range o.clean (start_placed w.system t o.clean) (λ e. (e, (o.goes e).0));
       shaped = kept.1;
       short = refl;
       gapped = le-ltb (gap_length (system_of w.system)) 0 (omega arith);
@@ -86,7 +84,7 @@ close_possible w line e =
     (λ h.
     let c = can_close w line (eqb-true _ _ h) in
     let b = begun w e (or_right (is_part w.rest) (is_at w.place) c.begun) in
-    possible_by (moved w Shut w.rest crc_start) (moved_begun w Shut w.rest crc_start b refl b.course.varied b.shaped refl))
+    possible_by (moved w None w.rest crc_start) (moved_begun w None w.rest crc_start b refl b.course.varied b.shaped refl))
     (λ h. e)
 
 -- ---- a fresh writer
@@ -116,7 +114,7 @@ module _ (w : Writer) (possible : impossible w ≡ false) where
   close_never_2 long e = not_given (given_holds 2 (close_faults w long) e (λ z. omega arith))
 
 -- ---- what an accepted addition finds
-fixed_by_lem : (p : Place) (block kind n : ℕ) → is_at p ≡ true → is_variable block ≡ false → ill_shaped p block kind n ≡ false → n + 1 ≡ size_of block
+fixed_by_lem : (p : Option ℕ) (block kind n : ℕ) → is_at p ≡ true → is_variable block ≡ false → ill_shaped p block kind n ≡ false → n + 1 ≡ size_of block
 unfolding ill_shaped
 fixed_by_lem p block kind n o v e =
     let a = (or_false (ltb 255 kind) _ (or_false (ltb most n) _ e).1).1 in
@@ -124,30 +122,30 @@ fixed_by_lem p block kind n o v e =
     sym (ap₂ (λ (x y : Bool). (x && not y) && (not (eqb (n + 1) (size_of block)) || eqb kind 0)) o v) ∙ a in
     eqb-true _ _ (not-false _ (or_false (not (eqb (n + 1) (size_of block))) _ b).0)
 
-laid_most : (r : Rest) (kind n : ℕ) → misshapen r ≡ false → is_other r kind n ≡ false → laid_of r ≤ n + 6
-laid_most NoBlock kind n e o = omega arith
-laid_most (Part k m j) kind n e o =
-    let a = or_false (ltb j 1) (ltb (m + 6) j) (or_false (ltb most m) _ e).1 in
-    let b = eqb-true m n (both_true (eqb k kind) (eqb m n) (not-false _ o)).1 in
-    omega (arith, ltb-false (m + 6) j a.1, b)
+laid_most : (r : Option Part) (kind n : ℕ) → misshapen r ≡ false → is_other r kind n ≡ false → laid_of r ≤ n + 6
+laid_most None kind n e o = omega arith
+laid_most (Some p) kind n e o =
+    let a = or_false (ltb p.laid 1) (ltb (p.count + 6) p.laid) (or_false (ltb most p.count) _ e).1 in
+    let b = eqb-true p.count n (both_true (eqb p.kind kind) (eqb p.count n) (not-false _ o)).1 in
+    omega (arith, ltb-false (p.count + 6) p.laid a.1, b)
 
-whole_by : (r : Rest) (v : Bool) → (is_part r && not v) ≡ false → v ≡ false → r ≡ NoBlock
-whole_by NoBlock v e h = refl
-whole_by (Part k m j) true e h = absurd (subst T h tt)
-whole_by (Part k m j) false e h = absurd (subst T e tt)
+whole_by : (r : Option Part) (v : Bool) → (is_part r && not v) ≡ false → v ≡ false → r ≡ None
+whole_by None v e h = refl
+whole_by (Some p) true e h = absurd (subst T h tt)
+whole_by (Some p) false e h = absurd (subst T e tt)
 
 -- an unfinished block: 1 to n+6 words laid
 part_range : (end p long n j k : ℕ) → p < end → long ≡ n + 7 - j → j ≤ n + 6 → k ≡ min (end - p) long → (k ≡ long → ⊥) → (1 ≤ j + k) × (j + k ≤ n + 6)
 part_range end p long n j k a b c d e = (omega arith, omega arith)
 
-rest_after : (b : Bool) (kind n j : ℕ) → n ≤ most → (b ≡ false → (1 ≤ j) × (j ≤ n + 6)) → misshapen (pick b NoBlock (Part kind n j)) ≡ false
+rest_after : (b : Bool) (kind n j : ℕ) → n ≤ most → (b ≡ false → (1 ≤ j) × (j ≤ n + 6)) → misshapen (pick b None (unfinished kind n j)) ≡ false
 unfolding pick
 rest_after true kind n j m h = refl
 rest_after false kind n j m h = false_or (le-ltb most n m) (false_or (le-ltb j 1 (h refl).0) (le-ltb (n + 6) j (h refl).1))
 
-varied_any : (r : Rest) (v : Bool) → v ≡ true → (is_part r && not v) ≡ false
-varied_any NoBlock v e = refl
-varied_any (Part k m j) v e = ap not e
+varied_any : (r : Option Part) (v : Bool) → v ≡ true → (is_part r && not v) ≡ false
+varied_any None v e = refl
+varied_any (Some p) v e = ap not e
 
 -- what a CRC is taken on to has 18 bits
 is_register : (c : ℕ) (ws : List ℕ) → overlong (crc_of c ws) ≡ false
@@ -164,8 +162,8 @@ module _ (w : Writer) (line : List ℕ) (kind : ℕ) (vs : List ℕ) (ok : add_f
   abbrev k : ℕ
   k = fitting w (todo w kind vs)
 
-  abbrev rest' : Rest
-  rest' = pick (eqb (fitting w (todo w kind vs)) (length (todo w kind vs))) NoBlock (Part kind (length vs) (laid_of w.rest + fitting w (todo w kind vs)))
+  abbrev rest' : Option Part
+  rest' = pick (eqb (fitting w (todo w kind vs)) (length (todo w kind vs))) None (unfinished kind (length vs) (laid_of w.rest + fitting w (todo w kind vs)))
 
   abbrev crc' : ℕ
   crc' = crc_of w.crc (take (fitting w (todo w kind vs)) (todo w kind vs))
@@ -191,7 +189,7 @@ module _ (w : Writer) (line : List ℕ) (kind : ℕ) (vs : List ℕ) (ok : add_f
       part_range (end_in w) (place_of w.place) (length ws) (length vs) (laid_of w.rest) k free (variable_long v)
       (laid_most w.rest kind (length vs) at_adding.shaped adds.same) refl h
 
-  variable_after : is_variable w.settings.block ≡ true → Begun (moved w (At (place_of w.place + k)) rest' crc')
+  variable_after : is_variable w.settings.block ≡ true → Begun (moved w (Some (place_of w.place + k)) rest' crc')
   variable_after v =
       moved_begun w _ rest' crc' at_adding (variable_placed (system_of w.system).payload block w.settings.flag (place_of w.place + k) v (let f = free in omega arith))
       (varied_any rest' (is_variable block) v)
@@ -200,19 +198,19 @@ module _ (w : Writer) (line : List ℕ) (kind : ℕ) (vs : List ℕ) (ok : add_f
       (is_register w.crc _)
 
   -- a fixed line: the block is laid whole, up to the next place
-  pub fixed_whole : is_variable w.settings.block ≡ false → w.rest ≡ NoBlock
+  pub fixed_whole : is_variable w.settings.block ≡ false → w.rest ≡ None
   fixed_whole v = whole_by w.rest (is_variable block) at_adding.course.varied v
 
   pub fixed_size : is_variable w.settings.block ≡ false → length ws ≡ size_of block
   fixed_size v =
-      ap (λ (r : Rest). length (drop (laid_of r) (words_in block w.mode kind vs))) (fixed_whole v)
+      ap (λ (r : Option Part). length (drop (laid_of r) (words_in block w.mode kind vs))) (fixed_whole v)
       ∙ ap length (words_fixed block w.mode kind vs v)
       ∙ fixed_long w.mode kind vs
       ∙ fixed_by_lem w.place block kind (length vs) adds.begun v adds.shape
 
-  at_grid : misplaced (system_of w.system).payload w.settings.block w.settings.flag (At (place_of w.place)) ≡ false
+  at_grid : misplaced (system_of w.system).payload w.settings.block w.settings.flag (Some (place_of w.place)) ≡ false
   at_grid =
-      subst (λ (x : Place). misplaced (system_of w.system).payload block w.settings.flag x ≡ false) (at_place w.place adds.begun) at_adding.course.placed
+      subst (λ (x : Option ℕ). misplaced (system_of w.system).payload block w.settings.flag x ≡ false) (at_place w.place adds.begun) at_adding.course.placed
 
   fixed_next : is_variable w.settings.block ≡ false → place_of w.place + size_of block ≤ end_in w
   fixed_next v = grid_room (system_of w.system).payload block w.settings.flag (place_of w.place) v at_grid free
@@ -223,24 +221,24 @@ module _ (w : Writer) (line : List ℕ) (kind : ℕ) (vs : List ℕ) (ok : add_f
   pub fixed_fits : is_variable w.settings.block ≡ false → fitting w (todo w kind vs) ≡ length (todo w kind vs)
   fixed_fits v = let a = fixed_next v in let b = fixed_size v in omega arith
 
-  fixed_after : is_variable w.settings.block ≡ false → Begun (moved w (At (place_of w.place + k)) rest' crc')
+  fixed_after : is_variable w.settings.block ≡ false → Begun (moved w (Some (place_of w.place + k)) rest' crc')
   fixed_after v =
       let all = fixed_fits v in
       let one = one-mul (size_of block) in
       let next : place_of w.place + k ≡ place_of w.place + 1 * size_of block = ap (λ (x : ℕ). place_of w.place + x) (all ∙ fixed_size v ∙ sym one) in
-      let whole : rest' ≡ NoBlock = pick_true _ _ (eq-eqb _ _ all) in
+      let whole : rest' ≡ None = pick_true _ _ (eq-eqb _ _ all) in
       moved_begun w _ rest' crc' at_adding
-      (subst (λ (x : ℕ). misplaced (system_of w.system).payload block w.settings.flag (At x) ≡ false) (sym next)
+      (subst (λ (x : ℕ). misplaced (system_of w.system).payload block w.settings.flag (Some x) ≡ false) (sym next)
       (grid_next (system_of w.system).payload block w.settings.flag (place_of w.place) 1 v at_grid
       (subst (λ (x : ℕ). place_of w.place + x ≤ end_in w) (sym one) (fixed_next v))))
-      (ap (λ (r : Rest). is_part r && not (is_variable block)) whole)
+      (ap (λ (r : Option Part). is_part r && not (is_variable block)) whole)
       (ap misshapen whole)
       (is_register w.crc _)
 
-  add_begun : Begun (moved w (At (place_of w.place + k)) rest' crc')
+  add_begun : Begun (moved w (Some (place_of w.place + k)) rest' crc')
   add_begun = go (is_variable block) refl
     where
-      go : (b : Bool) → is_variable block ≡ b → Begun (moved w (At (place_of w.place + k)) rest' crc')
+      go : (b : Bool) → is_variable block ≡ b → Begun (moved w (Some (place_of w.place + k)) rest' crc')
       go true v = variable_after v
       go false v = fixed_after v
 

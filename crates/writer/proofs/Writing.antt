@@ -1,6 +1,7 @@
 -- A line opened, filled by any calls and closed is the line of the definition: what was laid, joined, stands in its area, then filler;
 -- and the line check finds no fault in it.
 -- Assumes nothing.
+use Rattle.std.specs.Prelude.{Option, Some}
 use mathlib.Core.Path.{◌≡◌, refl, sym, ap, ap₂, ◌∙◌, subst}
 use mathlib.Core.Bool.{Bool, true}
 use mathlib.Core.List.{List, [], ◌++◌, append_assoc, append-nil}
@@ -17,8 +18,6 @@ use Rattle.words.specs.Crc.{crc_start, crc_of}
 use Rattle.words.specs.Modes.{is_mode}
 use Rattle.words.proofs.CrcLaws.{crc_none, crc_append}
 use Rattle.line.specs.declared.settings.Settings.{Settings}
-use Rattle.course.specs.declared.Place.{Place}
-use Rattle.course.specs.declared.Place.TheVariants.{At}
 use Rattle.line.specs.Systems.{system_of, is_system}
 use Rattle.line.specs.Fixed.{is_variable}
 use Rattle.line.specs.Settings.{Held, settings_fault}
@@ -57,7 +56,7 @@ pub record Open (system mode : ℕ) (f v : Bool) (n : ℕ) (t : Settings) (gs a 
   pub of_system : w.system ≡ system
   pub of_mode : w.mode ≡ mode
   pub of_settings : w.settings ≡ t
-  pub of_place : w.place ≡ At (length a)
+  pub of_place : w.place ≡ Some (length a)
   pub within : length a ≤ area_length (system_of system).payload t.flag
   pub words : each (legal mode (is_variable t.block)) a ≡ true
   pub summed : w.crc ≡ crc_of crc_start a
@@ -91,7 +90,7 @@ module _ (system mode : ℕ) (f v : Bool) (n : ℕ) (t : Settings) (held : Held 
   unfolding before
   stands gs a w line o =
       let fill : List ℕ = replicate ((system_of system).payload - length a) 0x200 in
-      ap₂ (λ (p : Place) (l : List ℕ). part (payload_at (system_of system)) (place_of p) l) o.of_place (o.is ∙ framed_front (system_of system) f v n t gs (a ++ fill))
+      ap₂ (λ (p : Option ℕ) (l : List ℕ). part (payload_at (system_of system)) (place_of p) l) o.of_place (o.is ∙ framed_front (system_of system) f v n t gs (a ++ fill))
       ∙ ap (take (length a)) (drop_at (before gs) (a ++ fill) (payload_at (system_of system)) (before_long gs o.holds))
       ∙ take_at a fill (length a) refl
 
@@ -145,8 +144,8 @@ module _ (system mode : ℕ) (f v : Bool) (n : ℕ) (t : Settings) (held : Held 
         ∙ ap (λ (m : ℕ). before gs ++ ((a ++ laid) ++ replicate m 0x200)) rest
         ∙ sym (framed_front (system_of system) f v n t gs _)
 
-    after_place : (adding w line kind vs).state.place ≡ At (length a + k)
-    after_place = ap (λ (x : Added). x.state.place) (add_leaves w line kind vs ok) ∙ ap (λ (p : ℕ). At (p + k)) place_is
+    after_place : (adding w line kind vs).state.place ≡ Some (length a + k)
+    after_place = ap (λ (x : Added). x.state.place) (add_leaves w line kind vs ok) ∙ ap (λ (p : ℕ). Some (p + k)) place_is
 
     -- the CRC of what was laid before, taken on over what is laid now
     after_crc : (adding w line kind vs).state.crc ≡ crc_of crc_start (a ++ laid)
@@ -186,7 +185,7 @@ module _ (system mode : ℕ) (f v : Bool) (n : ℕ) (t : Settings) (held : Held 
           of_system = ap (λ (x : Added). x.state.system) (add_leaves w line kind vs ok) ∙ o.of_system;
           of_mode = ap (λ (x : Added). x.state.mode) (add_leaves w line kind vs ok) ∙ o.of_mode;
           of_settings = ap (λ (x : Added). x.state.settings) (add_leaves w line kind vs ok) ∙ o.of_settings;
-          of_place = after_place ∙ ap At (sym long);
+          of_place = after_place ∙ ap Some (sym long);
           within = subst (λ (x : ℕ). x ≤ area_length (system_of system).payload t.flag) (sym long) fits_in;
           words = each_append _ a laid o.words laid_legal;
           summed = after_crc;
@@ -312,7 +311,7 @@ module _ (system mode : ℕ) (f v : Bool) (n : ℕ) (t : Settings) (held : Held 
   closed_line =
       ap (λ (x : Left). x.line) (close_leaves w line (close_clear w line done))
       ∙ ap₂ (λ (s : ℕ) (u : Settings). sealed (system_of s) u.flag (place_of w.place) w.crc line) o.of_system o.of_settings
-      ∙ ap₂ (λ (p : Place) (l : List ℕ). sealed (system_of system) t.flag (place_of p) w.crc l) o.of_place o.is
+      ∙ ap₂ (λ (p : Option ℕ) (l : List ℕ). sealed (system_of system) t.flag (place_of p) w.crc l) o.of_place o.is
       ∙ seals (system_of system) f v n t gs held row.room o.holds (joined ps) w.crc o.within (area_most (system_of system).payload t.flag) o.summed
 
   buildable : Buildable system mode n t (area_from (system_of system).payload t.flag ps)

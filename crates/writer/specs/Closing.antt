@@ -1,10 +1,9 @@
 -- Closing a line: answers 1, 2, 20, and what stands in the line and the state afterwards.
 -- Assumes nothing.
-use Rattle.std.specs.Prelude.{ℕ, ◌+◌, ◌-◌, ◌&&◌, ◌||◌, not, List, [], ◌∷◌, ◌++◌, eqb, length, take, replicate}
+use Rattle.std.specs.Prelude.{ℕ, ◌+◌, ◌-◌, ◌&&◌, ◌||◌, not, List, [], ◌∷◌, ◌++◌, eqb, length, take, replicate, None}
 use Rattle.lists.specs.Tests.{pick, Refusal, when, lowest_of}
 use Rattle.words.specs.Crc.{crc_start, crc_of, register_words}
 use Rattle.line.specs.declared.systems.System.{System}
-use Rattle.course.specs.declared.Place.TheVariants.{Shut}
 use Rattle.line.specs.Systems.{system_of}
 use Rattle.line.specs.Layout.{payload_at, area_length}
 use Rattle.line.specs.Check.{fits_length}
@@ -42,5 +41,5 @@ unfoldable pub closing : Writer → List ℕ → Left
 closing w line =
     let fault = close_fault w (length line) in
     pick (eqb fault 0)
-    (left Done (moved w Shut w.rest crc_start) (sealed (system_of w.system) w.settings.flag (place_of w.place) w.crc line))
+    (left Done (moved w None w.rest crc_start) (sealed (system_of w.system) w.settings.flag (place_of w.place) w.crc line))
     (left (Refused fault) w line)

@@ -1,16 +1,14 @@
 -- What an addition looks at, where neither 1 nor 2 holds. Only the promises of functions that the crate keeps to itself cite this; no public
 -- function's does.
 -- Assumes nothing.
-use Rattle.std.specs.Prelude.{ℕ, ◌+◌, ◌-◌, true, false, ◌&&◌, ◌||◌, not, List, [], ◌∷◌, ◌≡◌, leb, length, get_or}
+use Rattle.std.specs.Prelude.{ℕ, ◌+◌, ◌-◌, true, false, ◌&&◌, ◌||◌, not, List, [], ◌∷◌, ◌≡◌, leb, length, get_or, Some, None}
 use Rattle.lists.specs.Tests.{pick, Refusal, when}
 use Rattle.line.specs.Systems.{system_of}
 use Rattle.line.specs.Fixed.{size_of}
 use Rattle.line.specs.Layout.{payload_at}
 use Rattle.line.specs.Check.{fits_length}
 use Rattle.course.specs.Course.{is_at}
-use Rattle.course.specs.declared.Place.TheVariants.{At}
 use Rattle.writer.specs.declared.state.Writer.{Writer}
-use Rattle.writer.specs.declared.state.Rest.TheVariants.{NoBlock}
 use Rattle.writer.specs.declared.state.Laid.TheVariants.{Finished}
 use Rattle.writer.specs.declared.adding.Ground.{Ground}
 use Rattle.writer.specs.declared.adding.Held.{Held}
@@ -61,7 +59,7 @@ IsStep g h line kind vs s line' =
 
 -- a place of a fixed line is filled
 abbrev pub filled : ℕ → ℕ → Step
-filled next c = record { answer = Finished; held = record { place = At next; rest = NoBlock; crc = c } }
+filled next c = record { answer = Finished; held = record { place = Some next; rest = None; crc = c } }
 
 -- how many were finished, why it stopped, and what is held then
 abbrev pub ran : ℕ → Stop → Held → Run

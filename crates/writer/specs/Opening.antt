@@ -1,10 +1,8 @@
 -- Opening a line: answers 1, 2, 9-13, 20, and what stands in the line and the state afterwards.
 -- Assumes nothing.
-use Rattle.std.specs.Prelude.{ℕ, Bool, false, ◌&&◌, ◌||◌, not, List, [], ◌∷◌, ◌++◌, eqb, leb, length, replicate}
+use Rattle.std.specs.Prelude.{ℕ, Bool, false, ◌&&◌, ◌||◌, not, List, [], ◌∷◌, ◌++◌, eqb, leb, length, replicate, Option, Some, None}
 use Rattle.lists.specs.Tests.{pick, Refusal, when, lowest_of}
 use Rattle.line.specs.declared.settings.Settings.{Settings}
-use Rattle.course.specs.declared.Last.{Last}
-use Rattle.course.specs.declared.Last.TheVariants.{Unknown, Number}
 use Rattle.line.specs.Systems.{system_of}
 use Rattle.line.specs.Settings.{settings_faults, same_settings}
 use Rattle.line.specs.Layout.{framed}
@@ -16,9 +14,9 @@ use Rattle.writer.specs.State.{is_part, impossible, open_state}
 use Rattle.writer.specs.Answers.{Left, left}
 
 -- the number comes next; with no last number none does
-abbrev pub is_next : ℕ → Last → ℕ → Bool
-is_next lines Unknown n = false
-is_next lines (Number x) n = eqb n (next_number lines x)
+abbrev pub is_next : ℕ → Option ℕ → ℕ → Bool
+is_next lines None n = false
+is_next lines (Some x) n = eqb n (next_number lines x)
 
 -- 20: line open already, or unfinished block and a changed setting or a number that isn't next
 unfoldable pub open_blocked : Writer → ℕ → Settings → Bool

@@ -1,40 +1,40 @@
 -- The writer's state, and which states are impossible.
 -- Assumes nothing.
-use Rattle.std.specs.Prelude.{ℕ, ◌+◌, ◌^◌, Bool, true, false, ◌||◌, leb, ltb}
+use Rattle.std.specs.Prelude.{ℕ, ◌+◌, ◌^◌, Bool, true, false, ◌||◌, leb, ltb, Option, Some, None}
 use Rattle.words.specs.Crc.{crc_start}
-use Rattle.course.specs.declared.Last.TheVariants.{Unknown, Number}
-use Rattle.course.specs.declared.Place.{Place}
-use Rattle.course.specs.declared.Place.TheVariants.{Shut, At}
 use Rattle.packets.specs.Listing.{gap_length}
 use Rattle.line.specs.declared.settings.Settings.{Settings}
 use Rattle.line.specs.Settings.{no_settings}
 use Rattle.line.specs.Systems.{system_of}
 use Rattle.course.specs.Course.{impossible_after, blocks_end}
-use Rattle.writer.specs.declared.state.Rest.{Rest}
-use Rattle.writer.specs.declared.state.Rest.TheVariants.{NoBlock, Part}
 use Rattle.writer.specs.declared.state.Writer.{Writer}
+use Rattle.writer.specs.declared.state.Part.{Part}
 
 -- n is at most 16,384
 abbrev pub most : ℕ
 most = 16384
 
--- an unfinished block, and the words of it that are laid
-abbrev pub is_part : Rest → Bool
-is_part NoBlock = false
-is_part (Part k n j) = true
+-- an unfinished block of that type, with n values, j of its words laid
+abbrev pub unfinished : ℕ → ℕ → ℕ → Option Part
+unfinished k n j = Some (record { kind = k; count = n; laid = j })
 
-abbrev pub laid_of : Rest → ℕ
-laid_of NoBlock = 0
-laid_of (Part k n j) = j
+-- a block is unfinished, and the words of it that are laid
+abbrev pub is_part : Option Part → Bool
+is_part None = false
+is_part (Some p) = true
+
+abbrev pub laid_of : Option Part → ℕ
+laid_of None = 0
+laid_of (Some p) = p.laid
 
 -- Fresh: no number, line or block, settings zero, the CRC of no words, and no word of a gap used.
 abbrev pub fresh : ℕ → ℕ → Writer
-fresh system mode = record { system = system; mode = mode; last = Unknown; settings = no_settings; place = Shut; rest = NoBlock; crc = crc_start; used = 0 }
+fresh system mode = record { system = system; mode = mode; last = None; settings = no_settings; place = None; rest = None; crc = crc_start; used = 0 }
 
 -- an unfinished block has n at most 16,384, and 1 to n+6 words laid
-abbrev pub misshapen : Rest → Bool
-misshapen NoBlock = false
-misshapen (Part k n j) = ltb most n || (ltb j 1 || ltb (n + 6) j)
+abbrev pub misshapen : Option Part → Bool
+misshapen None = false
+misshapen (Some p) = ltb most p.count || (ltb p.laid 1 || ltb (p.count + 6) p.laid)
 
 -- a CRC is a register of 18 bits; every number of them is taken, right or wrong
 abbrev pub overlong : ℕ → Bool
@@ -55,10 +55,10 @@ end_in w = blocks_end (system_of w.system).payload w.settings.block w.settings.f
 
 -- the state of an opened line, at its first word, none laid and none of the gap used; an unfinished block stays
 abbrev pub open_state : Writer → ℕ → Settings → Writer
-open_state w n t = record { system = w.system; mode = w.mode; last = Number n; settings = t; place = At 0; rest = w.rest; crc = crc_start; used = 0 }
+open_state w n t = record { system = w.system; mode = w.mode; last = Some n; settings = t; place = Some 0; rest = w.rest; crc = crc_start; used = 0 }
 
 -- the state with another place, rest and CRC
-abbrev pub moved : Writer → Place → Rest → ℕ → Writer
+abbrev pub moved : Writer → Option ℕ → Option Part → ℕ → Writer
 moved w p r c = record { system = w.system; mode = w.mode; last = w.last; settings = w.settings; place = p; rest = r; crc = c; used = w.used }
 
 -- the state with more words of the gap used

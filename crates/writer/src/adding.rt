@@ -10,9 +10,8 @@ ghost use Rattle.writer.specs.Batch.{batch_fault};
 ghost use Rattle.writer.specs.Ground.{held_by, Grounds, Standing, block_faults, IsStep, filled};
 
 use crate::state;
-use crate::state::{Laid, Rest, Writer};
+use crate::state::{Laid, Part, Writer};
 use blocks::block;
-use course::Place;
 use line::{check, systems};
 
 // What adding leaves beside the line.
@@ -35,8 +34,8 @@ pub struct Ground {
 // What an addition moves of the state.
 #[derive(Clone, Copy)]
 pub struct Held {
-    pub place: Place,
-    pub rest: Rest,
+    pub place: Option<usize>,
+    pub rest: Option<Part>,
     pub crc: u32,
 }
 
@@ -55,7 +54,7 @@ pub struct Asked {
 }
 
 // n above 16,384 or type above FFh; fixed line open: n not size-1 or type 00h.
-fn is_ill_shaped(place: Place, block: u8, size: u16, kind: u16, n: usize) -> bool
+fn is_ill_shaped(place: Option<usize>, block: u8, size: u16, kind: u16, n: usize) -> bool
     requires { size ≡ size_of block }
     ensures { result ≡ ill_shaped place block kind n }
 {
@@ -63,30 +62,23 @@ fn is_ill_shaped(place: Place, block: u8, size: u16, kind: u16, n: usize) -> boo
         return true;
     }
     let fixed = course::is_at(place) & !line::fixed::is_variable(block);
-    (255 < kind) | (fixed & ((n + 1 != size as usize) | (kind == 0)))
+    (255 < kind) | (fixed & ((n + 1 != usize::from(size)) | (kind == 0)))
 }
 
 // No place (variable: word) left in the open line.
-pub fn is_full(end: usize, place: Place) -> bool
+pub fn is_full(end: usize, place: Option<usize>) -> bool
     ensures { result ≡ is_full end place }
 {
-    match place {
-        Place::Shut => false,
-        Place::At(p) => end <= p,
-    }
+    matches!(place, Some(p) if end <= p)
 }
 
 // An unfinished block, and another type or length lent.
-fn is_other(rest: Rest, kind: u16, n: usize) -> bool
+fn is_other(rest: Option<Part>, kind: u16, n: usize) -> bool
     ensures { result ≡ is_other rest kind n }
 {
     match rest {
-        Rest::NoBlock => false,
-        Rest::Part {
-            kind: k,
-            count,
-            laid: _,
-        } => !((k as u16 == kind) & (count as usize == n)),
+        None => false,
+        Some(Part { kind: k, count, .. }) => !((u16::from(k) == kind) & (usize::from(count) == n)),
     }
 }
 
@@ -94,15 +86,16 @@ fn is_other(rest: Rest, kind: u16, n: usize) -> bool
 pub(crate) fn ask(w: Writer, long: usize) -> Asked
     ensures { (result.fault ≡ batch_fault w long) × Grounds w result.ground }
 {
-    let last = w.last;
-    let settings = w.settings;
-    let place = w.place;
-    let rest = w.rest;
     let s = systems::system_of(w.system);
-    let start = lists::minus_or_zero(s.length, s.payload);
-    let x = course::look(w.system, last, settings, place, state::is_part(rest));
+    let x = course::look(
+        w.system,
+        w.last,
+        w.settings,
+        w.place,
+        state::is_part(w.rest),
+    );
     let r2 = lists::or_else(
-        x.impossible | state::is_misheld(w.system, rest, w.crc, w.used),
+        x.impossible | state::is_misheld(w.system, w.rest, w.crc, w.used),
         2,
         0,
     );
@@ -110,10 +103,10 @@ pub(crate) fn ask(w: Writer, long: usize) -> Asked
         fault: lists::or_else(!check::is_fit(w.system, w.mode, long), 1, r2),
         ground: Ground {
             mode: w.mode,
-            block: settings.block,
+            block: w.settings.block,
             size: x.size,
             end: x.end,
-            start: start,
+            start: s.length.saturating_sub(s.payload),
         },
     }
 }
@@ -122,11 +115,9 @@ pub(crate) fn ask(w: Writer, long: usize) -> Asked
 pub(crate) fn held_in(w: Writer) -> Held
     ensures { held_by w result ≡ w }
 {
-    let place = w.place;
-    let rest = w.rest;
     Held {
-        place: place,
-        rest: rest,
+        place: w.place,
+        rest: w.rest,
         crc: w.crc,
     }
 }
@@ -135,9 +126,7 @@ pub(crate) fn held_in(w: Writer) -> Held
 pub(crate) fn state_with(w: Writer, h: Held) -> Writer
     ensures { result ≡ held_by w h }
 {
-    let place = h.place;
-    let rest = h.rest;
-    state::moved(w, place, rest, h.crc)
+    state::moved(w, h.place, h.rest, h.crc)
 }
 
 // 17 to 20: the lowest number whose condition holds, or 0. Each test leaves, because a block of a fixed line has few words.
@@ -145,19 +134,17 @@ pub(crate) fn block_fault(g: Ground, h: Held, kind: u16, values: &[u16]) -> u8
     requires { g.size ≡ size_of g.block }
     ensures { result ≡ lowest_of (block_faults g h kind values.now) }
 {
-    let place = h.place;
-    let rest = h.rest;
     let n = values.len();
     if !blocks::values::all_valued(g.mode, values) {
         return 17;
     }
-    if is_ill_shaped(place, g.block, g.size, kind, n) {
+    if is_ill_shaped(h.place, g.block, g.size, kind, n) {
         return 18;
     }
-    if is_full(g.end, place) {
+    if is_full(g.end, h.place) {
         return 19;
     }
-    lists::or_else(!course::is_at(place) | is_other(rest, kind, n), 20, 0)
+    lists::or_else(!course::is_at(h.place) | is_other(h.rest, kind, n), 20, 0)
 }
 
 // A place of a fixed line is filled: all of a block fits, because places stand one after another.
@@ -167,8 +154,8 @@ pub(crate) fn placed(next: usize, c: u32) -> Step
     Step {
         answer: Laid::Finished,
         held: Held {
-            place: Place::At(next),
-            rest: Rest::NoBlock,
+            place: Some(next),
+            rest: None,
             crc: c,
         },
     }
@@ -179,38 +166,34 @@ pub(crate) fn lay_part(g: Ground, h: Held, kind: u16, values: &[u16], line: &mut
     requires { Standing g h (length line.old) × (lowest_of (block_faults g h kind values.now) ≡ 0) × (is_variable g.block ≡ true) }
     ensures { IsStep g h line.old kind values.now result line.new }
 {
-    let at = h.place;
-    let rest = h.rest;
-    let place = course::place_of(at);
-    let laid = state::laid_of(rest);
+    let place = course::place_of(h.place);
+    let laid = state::laid_of(h.rest);
     let n = values.len();
     let left = n + 7 - laid;
     let room = g.end - place;
     let a = g.start + place;
     if left <= room {
-        let e = a + left;
-        let c = block::lay_on(g.mode, kind, values, laid, h.crc, &mut line[a..e]);
+        let crc = block::lay_on(g.mode, kind, values, laid, h.crc, &mut line[a..a + left]);
         return Step {
             answer: Laid::Finished,
             held: Held {
-                place: Place::At(place + left),
-                rest: Rest::NoBlock,
-                crc: c,
+                place: Some(place + left),
+                rest: None,
+                crc,
             },
         };
     }
-    let e = a + room;
-    let c = block::lay_on(g.mode, kind, values, laid, h.crc, &mut line[a..e]);
+    let crc = block::lay_on(g.mode, kind, values, laid, h.crc, &mut line[a..a + room]);
     Step {
         answer: Laid::Unfinished,
         held: Held {
-            place: Place::At(place + room),
-            rest: Rest::Part {
+            place: Some(place + room),
+            rest: Some(Part {
                 kind: kind as u8,
                 count: n as u16,
                 laid: (laid + room) as u16,
-            },
-            crc: c,
+            }),
+            crc,
         },
     }
 }
@@ -219,11 +202,9 @@ pub(crate) fn lay_part(g: Ground, h: Held, kind: u16, values: &[u16], line: &mut
 fn told(w: Writer, s: Step) -> Addition
     ensures { (result.answer ≡ s.answer) × (result.state ≡ held_by w s.held) }
 {
-    let answer = s.answer;
-    let h = s.held;
     Addition {
-        answer: answer,
-        state: state_with(w, h),
+        answer: s.answer,
+        state: state_with(w, s.held),
     }
 }
 
@@ -233,10 +214,9 @@ pub fn add_block(w: Writer, kind: u16, values: &[u16], line: &mut [u16]) -> Addi
         × (laid_numbers result.answer ≡ laid_by (add_fault w (length line.old) kind values.now) (all_fits w kind values.now)) }
 {
     let x = ask(w, line.len());
-    let early = x.fault;
-    if early != 0 {
+    if x.fault != 0 {
         return Addition {
-            answer: Laid::Refused(early),
+            answer: Laid::Refused(x.fault),
             state: w,
         };
     }
@@ -252,12 +232,10 @@ pub fn add_block(w: Writer, kind: u16, values: &[u16], line: &mut [u16]) -> Addi
     if line::fixed::is_variable(g.block) {
         return told(w, lay_part(g, h, kind, values, line));
     }
-    let at = h.place;
-    let place = course::place_of(at);
+    let place = course::place_of(h.place);
     let k = values.len() + 1;
     let a = g.start + place;
-    let e = a + k;
-    let c = block::lay_place(g.mode, kind, values, h.crc, &mut line[a..e]);
+    let c = block::lay_place(g.mode, kind, values, h.crc, &mut line[a..a + k]);
     told(w, placed(place + k, c))
 }
 
@@ -273,10 +251,9 @@ pub fn add_place(w: Writer, long: usize, kind: u16, values: &[u16], place: &mut 
         };
     }
     let x = ask(w, long);
-    let early = x.fault;
-    if early != 0 {
+    if x.fault != 0 {
         return Addition {
-            answer: Laid::Refused(early),
+            answer: Laid::Refused(x.fault),
             state: w,
         };
     }
@@ -289,8 +266,7 @@ pub fn add_place(w: Writer, long: usize, kind: u16, values: &[u16], place: &mut 
             state: w,
         };
     }
-    let at = h.place;
-    let p = course::place_of(at);
+    let p = course::place_of(h.place);
     let c = block::lay_place(g.mode, kind, values, h.crc, place);
     told(w, placed(p + k, c))
 }

@@ -41,7 +41,7 @@ fn entry_end(at: usize, blocks: &[u16]) -> usize
     if left < 2 {
         return 0;
     }
-    let n = blocks[at + 1] as usize;
+    let n = usize::from(blocks[at + 1]);
     if left - 2 < n {
         return 0;
     }
@@ -64,12 +64,10 @@ fn lay_entry(g: Ground, h: Held, kind: u16, values: &[u16], line: &mut [u16]) ->
     if line::fixed::is_variable(g.block) {
         return adding::lay_part(g, h, kind, values, line);
     }
-    let at = h.place;
-    let place = course::place_of(at);
+    let place = course::place_of(h.place);
     let k = values.len() + 1;
     let a = g.start + place;
-    let e = a + k;
-    let c = block::lay_place(g.mode, kind, values, h.crc, &mut line[a..e]);
+    let c = block::lay_place(g.mode, kind, values, h.crc, &mut line[a..a + k]);
     adding::placed(place + k, c)
 }
 
@@ -77,40 +75,32 @@ fn ended(finished: usize, stop: Stop, held: Held) -> Run
     ensures { result ≡ ran finished stop held }
 {
     Run {
-        finished: finished,
-        stop: stop,
-        held: held,
+        finished,
+        stop,
+        held,
     }
 }
 
-// The entries one after another. The settings stay out of the loop.
+// The entries one after another. The settings stay out of the loop. It is a `while`, because an entry says itself how long it is: no range and no chain is plainer.
 fn lay_all(g: Ground, h: Held, blocks: &[u16], line: &mut [u16]) -> Run
     requires { Standing g h (length line.old) }
     ensures { IsRun g h line.old blocks.now result line.new }
 {
     let mut now = h;
-    let mut at = 0usize;
-    let mut finished = 0usize;
+    let mut at = 0;
+    let mut finished = 0;
     while at < blocks.len() {
         let e = entry_end(at, blocks);
         if e == 0 {
             return ended(finished, Stop::Refused(28), now);
         }
-        let from = at + 2;
-        let kind = blocks[at];
-        let s = lay_entry(g, now, kind, &blocks[from..e], line);
-        let answer = s.answer;
-        let held = s.held;
-        match answer {
-            Laid::Refused(n) => {
-                return ended(finished, Stop::Refused(n), held);
-            }
-            Laid::Unfinished => {
-                return ended(finished, Stop::Unfinished, held);
-            }
+        let s = lay_entry(g, now, blocks[at], &blocks[at + 2..e], line);
+        match s.answer {
+            Laid::Refused(n) => return ended(finished, Stop::Refused(n), s.held),
+            Laid::Unfinished => return ended(finished, Stop::Unfinished, s.held),
             Laid::Finished => {}
         }
-        now = held;
+        now = s.held;
         at = e;
         finished += 1;
     }
@@ -123,21 +113,17 @@ pub fn add_blocks(w: Writer, blocks: &[u16], line: &mut [u16]) -> Batch
         × (stop_numbers result.stop ≡ batch_by (batch_fault w (length line.old)) (stops_at w line.old (entries_of blocks.now))) }
 {
     let x = adding::ask(w, line.len());
-    let fault = x.fault;
-    if fault != 0 {
+    if x.fault != 0 {
         return Batch {
             finished: 0,
-            stop: Stop::Refused(fault),
+            stop: Stop::Refused(x.fault),
             state: w,
         };
     }
-    let g = x.ground;
-    let r = lay_all(g, adding::held_in(w), blocks, line);
-    let stop = r.stop;
-    let held = r.held;
+    let r = lay_all(x.ground, adding::held_in(w), blocks, line);
     Batch {
         finished: r.finished,
-        stop: stop,
-        state: adding::state_with(w, held),
+        stop: r.stop,
+        state: adding::state_with(w, r.held),
     }
 }

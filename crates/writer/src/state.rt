@@ -2,7 +2,6 @@
 ghost use Rattle.std.specs.Prelude.{◌≡◌, ◌||◌};
 ghost use Rattle.writer.specs.State.{is_part, laid_of, fresh, misshapen, overlong, overfull, impossible, end_in, moved};
 
-use course::{Last, Place};
 use line::settings;
 use line::settings::Settings;
 use packets::list;
@@ -10,9 +9,10 @@ use sums::crc;
 
 // An unfinished block: its type, n and the words laid (1 to n+6).
 #[derive(Clone, Copy)]
-pub enum Rest {
-    NoBlock,
-    Part { kind: u8, count: u16, laid: u16 },
+pub struct Part {
+    pub kind: u8,
+    pub count: u16,
+    pub laid: u16,
 }
 
 // crc is that of the area words laid so far in this line, and used counts the words of its gap in which packets stand. Closing keeps used.
@@ -20,10 +20,10 @@ pub enum Rest {
 pub struct Writer {
     pub system: u8,
     pub mode: u8,
-    pub last: Last,
+    pub last: Option<u16>,
     pub settings: Settings,
-    pub place: Place,
-    pub rest: Rest,
+    pub place: Option<usize>,
+    pub rest: Option<Part>,
     pub crc: u32,
     pub used: u16,
 }
@@ -47,97 +47,73 @@ pub enum Laid {
 pub fn fresh_writer(system: u8, mode: u8) -> Writer
     ensures { result ≡ fresh system mode }
 {
-    let none = settings::no_settings();
     Writer {
-        system: system,
-        mode: mode,
-        last: Last::Unknown,
-        settings: none,
-        place: Place::Shut,
-        rest: Rest::NoBlock,
+        system,
+        mode,
+        last: None,
+        settings: settings::no_settings(),
+        place: None,
+        rest: None,
         crc: crc::CRC_START,
         used: 0,
     }
 }
 
 // The state with another place, rest and CRC.
-pub fn moved(w: Writer, place: Place, rest: Rest, crc: u32) -> Writer
+pub fn moved(w: Writer, place: Option<usize>, rest: Option<Part>, crc: u32) -> Writer
     ensures { result ≡ moved w place rest crc }
 {
-    let last = w.last;
-    let settings = w.settings;
     Writer {
-        system: w.system,
-        mode: w.mode,
-        last: last,
-        settings: settings,
-        place: place,
-        rest: rest,
-        crc: crc,
-        used: w.used,
+        place,
+        rest,
+        crc,
+        ..w
     }
 }
 
 // A block is unfinished.
-pub fn is_part(rest: Rest) -> bool
+pub fn is_part(rest: Option<Part>) -> bool
     ensures { result ≡ is_part rest }
 {
-    match rest {
-        Rest::NoBlock => false,
-        Rest::Part {
-            kind: _,
-            count: _,
-            laid: _,
-        } => true,
-    }
+    rest.is_some()
 }
 
 // The words laid of the unfinished block, 0 where there is none.
-pub fn laid_of(rest: Rest) -> usize
+pub fn laid_of(rest: Option<Part>) -> usize
     ensures { result ≡ laid_of rest }
 {
     match rest {
-        Rest::NoBlock => 0,
-        Rest::Part {
-            kind: _,
-            count: _,
-            laid,
-        } => laid as usize,
+        None => 0,
+        Some(Part { laid, .. }) => usize::from(laid),
     }
 }
 
 // n above 16,384, or words laid not 1 to n+6.
-fn is_misshapen(rest: Rest) -> bool
+fn is_misshapen(rest: Option<Part>) -> bool
     ensures { result ≡ misshapen rest }
 {
     match rest {
-        Rest::NoBlock => false,
-        Rest::Part {
-            kind: _,
-            count,
-            laid,
-        } => { (16384 < count) | ((laid < 1) | (count as usize + 6 < laid as usize)) }
+        None => false,
+        Some(Part { count, laid, .. }) => {
+            (16384 < count) | (laid < 1) | (usize::from(count) + 6 < usize::from(laid))
+        }
     }
 }
 
 // The unfinished block is misshapen, the CRC above 18 bits, or more of the gap used than there is.
-pub(crate) fn is_misheld(system: u8, rest: Rest, crc: u32, used: u16) -> bool
+pub(crate) fn is_misheld(system: u8, rest: Option<Part>, crc: u32, used: u16) -> bool
     ensures { result ≡ (misshapen rest || (overlong crc || overfull system used)) }
 {
     let gap = list::gap_length(system);
-    is_misshapen(rest) | ((262144 <= crc) | (gap < used as usize))
+    is_misshapen(rest) | (262144 <= crc) | (gap < usize::from(used))
 }
 
 // No writer can have come into this state.
 pub fn is_impossible(w: Writer) -> bool
     ensures { result ≡ impossible w }
 {
-    let last = w.last;
-    let settings = w.settings;
-    let place = w.place;
-    let rest = w.rest;
-    let lines = course::is_impossible(w.system, last, settings, place, is_part(rest));
-    lines | is_misheld(w.system, rest, w.crc, w.used)
+    let lines = course::is_impossible(w.system, w.last, w.settings, w.place, is_part(w.rest));
+    lines | is_misheld(w.system, w.rest, w.crc, w.used)
 }
 
 // The words of the open line's area in which blocks may stand.

@@ -7,23 +7,13 @@ use Prim.Native.Nat.{ℕ}
 use native.Mathlib.Omega.{arith}
 use lib.Dec.{eqb}
 use lib.ListN.{length, get_or, replicate}
-use lib.Seq.{take_all}
 use Rattle.lists.specs.Lists.{part, same}
 use Rattle.lists.proofs.Lists.{part_add, length_part, eq_same}
 use Rattle.fields.specs.Fields.{bytes_for, number_from}
 use Rattle.fields.specs.Frame.{held_in}
-use Rattle.fields.proofs.PartLaws.{part_upto, same_append, and_one}
+use Rattle.fields.proofs.PartLaws.{same_append}
 
 -- ---- what is held of a writer's block and line
-pub seven_shown : (b x : List ℕ) → length b ≡ 80 → length x ≡ 7
-    → (eqb (get_or b 16 0) (get_or x 0 0) && (eqb (get_or b 17 0) (get_or x 1 0) && (eqb (get_or b 18 0) (get_or x 2 0) && (eqb (get_or b 19 0) (get_or x 3 0)
-    && (eqb (get_or b 20 0) (get_or x 4 0) && (eqb (get_or b 21 0) (get_or x 5 0) && eqb (get_or b 22 0) (get_or x 6 0)))))))
-    ≡ same (part 16 7 b) x
-seven_shown b x long h =
-    ap (λ (w : Bool). eqb (get_or b 16 0) (get_or x 0 0) && (eqb (get_or b 17 0) (get_or x 1 0) && (eqb (get_or b 18 0) (get_or x 2 0) && (eqb (get_or b 19 0) (get_or x 3 0)
-    && (eqb (get_or b 20 0) (get_or x 4 0) && (eqb (get_or b 21 0) (get_or x 5 0) && w)))))) (sym (and_one (eqb (get_or b 22 0) (get_or x 6 0))))
-    ∙ ap₂ same (sym (part_upto b 16 7 (omega (arith, long)))) (sym (part_upto x 0 7 (omega (arith, h))) ∙ take_all 7 x (omega (arith, h)))
-
 pub kept_shown : (b r : List ℕ) → length b ≡ 80 → length r ≡ 7 → bytes_for 4 (number_from (part 23 4 b)) ≡ part 23 4 b → bytes_for 2 (number_from (part 27 2 b)) ≡ part 27 2 b
     → (same (part 16 7 b) r && same (part 29 8 b) (bytes_for 8 0)) ≡ same (held_in b) (r ++ (bytes_for 4 (number_from (part 23 4 b)) ++ (bytes_for 2 (number_from (part 27 2 b)) ++ replicate 8 0)))
 unfolding held_in bytes_for

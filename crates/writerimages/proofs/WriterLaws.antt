@@ -1,6 +1,7 @@
 -- The writer's image: every state of the type comes back from it, an image gives itself again, and any 80 bytes spell a state of the type.
 -- No image is both a reader's and a writer's.
 -- Assumes nothing.
+use Rattle.std.specs.Prelude.{Option, Some, None}
 use mathlib.Core.Path.{◌≡◌, refl, sym, ap, ap₂, ◌∙◌}
 use mathlib.Core.Bool.{Bool, true, ◌&&◌}
 use mathlib.Core.List.{List, ◌++◌}
@@ -14,8 +15,6 @@ use Rattle.lists.specs.Lists.{part, same, each}
 use Rattle.lists.proofs.Tests.{both_true, and_true}
 use Rattle.lists.proofs.Lists.{part_part, same_eq, eq_same, each_at}
 use Rattle.line.specs.Settings.{small}
-use Rattle.writer.specs.declared.state.Rest.{Rest}
-use Rattle.writer.specs.declared.state.Rest.TheVariants.{NoBlock, Part}
 use Rattle.writer.specs.declared.state.Writer.{Writer}
 use Rattle.fields.specs.Fields.{bytes_for, number_from}
 use Rattle.fields.specs.Frame.{framed, last_in, place_in, held_in, shows_frame}
@@ -28,12 +27,14 @@ use Rattle.fields.proofs.FrameLaws.{frame_back, frame_held, length_framed, part_
 use Rattle.images.proofs.ShownLaws.{frame_shown}
 use Rattle.writerimages.proofs.KeptLaws.{kept_shown}
 use Rattle.images.proofs.ImageLaws as Reading
+use Rattle.writer.specs.declared.state.Part.{Part}
+use Rattle.writer.specs.State.{unfinished}
 
 -- ---- what is held of the block and the line
-pub length_rest : (r : Rest) → length (rest_bytes r) ≡ 7
+pub length_rest : (r : Option Part) → length (rest_bytes r) ≡ 7
 unfolding bytes_for
-length_rest NoBlock = refl
-length_rest (Part k n j) = refl
+length_rest None = refl
+length_rest (Some p) = refl
 
 abbrev held_of : Writer → List ℕ
 held_of w = rest_bytes w.rest ++ (bytes_for 4 w.crc ++ (bytes_for 2 w.used ++ replicate 8 0))
@@ -41,12 +42,12 @@ held_of w = rest_bytes w.rest ++ (bytes_for 4 w.crc ++ (bytes_for 2 w.used ++ re
 pub length_held : (w : Writer) → length (held_of w) ≡ 21
 length_held w = simp length-append (omega (arith, length_rest w.rest, length_bytes 4 w.crc, length_bytes 2 w.used))
 
-rest_back : (r : Rest) (t : List ℕ) → held_rest r ≡ true → rest_by (rest_byte r) (rest_bytes r ++ t) ≡ r
+rest_back : (r : Option Part) (t : List ℕ) → held_rest r ≡ true → rest_by (rest_byte r) (rest_bytes r ++ t) ≡ r
 unfolding bytes_for
-rest_back NoBlock t h = refl
-rest_back (Part k n j) t h =
-    let (count, laid) = both_true (two n) (two j) (both_true (small k) _ h).1 in
-    ap₂ (Part k) (number_bytes 2 n (ltb-true _ _ count)) (number_bytes 2 j (ltb-true _ _ laid))
+rest_back None t h = refl
+rest_back (Some p) t h =
+    let (count, laid) = both_true (two p.count) (two p.laid) (both_true (small p.kind) _ h).1 in
+    ap₂ (unfinished p.kind) (number_bytes 2 p.count (ltb-true _ _ count)) (number_bytes 2 p.laid (ltb-true _ _ laid))
 
 crc_back : (w : Writer) → four w.crc ≡ true → number_from (part 7 4 (held_of w)) ≡ w.crc
 crc_back w h =

@@ -1,15 +1,14 @@
 -- What every value of a writer's state holds, possible or not: numbers of their widths, arrays of their lengths.
 -- Assumes nothing.
-use Rattle.std.specs.Prelude.{◌≡◌, Bool, true, ◌&&◌}
+use Rattle.std.specs.Prelude.{◌≡◌, Bool, true, ◌&&◌, Option, Some, None}
 use Rattle.line.specs.Settings.{Held, small}
-use Rattle.writer.specs.declared.state.Rest.{Rest}
-use Rattle.writer.specs.declared.state.Rest.TheVariants.{NoBlock, Part}
 use Rattle.writer.specs.declared.state.Writer.{Writer}
 use Rattle.fields.specs.Widths.{two, four, held_last, held_place}
+use Rattle.writer.specs.declared.state.Part.{Part}
 
-abbrev pub held_rest : Rest → Bool
-held_rest NoBlock = true
-held_rest (Part k n j) = small k && (two n && two j)
+abbrev pub held_rest : Option Part → Bool
+held_rest None = true
+held_rest (Some p) = small p.kind && (two p.count && two p.laid)
 
 -- a writer's state
 pub record HeldWriter (w : Writer) : Type 0 where

@@ -1,29 +1,29 @@
 -- The writer's state as 80 bytes, and back. In 7 stands whether a block is unfinished, 0 or 1. Of the block and the line are held: 17 the type; 18-19 n;
 -- 21-22 the words laid; 23-26 the CRC of the words laid in this line; 27-28 the words of the gap used.
 -- Assumes nothing.
-use Rattle.std.specs.Prelude.{ℕ, zero, suc, Bool, List, [], ◌∷◌, ◌++◌, get_or, replicate}
+use Rattle.std.specs.Prelude.{ℕ, zero, suc, Bool, List, [], ◌∷◌, ◌++◌, get_or, replicate, Option, Some, None}
 use Rattle.lists.specs.Lists.{part, same}
-use Rattle.writer.specs.declared.state.Rest.{Rest}
-use Rattle.writer.specs.declared.state.Rest.TheVariants.{NoBlock, Part}
 use Rattle.writer.specs.declared.state.Writer.{Writer}
 use Rattle.fields.specs.Fields.{bytes_for, number_from, settings_from}
 use Rattle.fields.specs.Frame.{framed, last_in, place_in, held_in}
+use Rattle.writer.specs.declared.state.Part.{Part}
+use Rattle.writer.specs.State.{unfinished}
 
 abbrev pub writer_tag : ℕ
 writer_tag = 0x57
 
-abbrev pub rest_byte : Rest → ℕ
-rest_byte NoBlock = 0
-rest_byte (Part k n j) = 1
+abbrev pub rest_byte : Option Part → ℕ
+rest_byte None = 0
+rest_byte (Some p) = 1
 
 -- type, n and words laid
-abbrev pub rest_bytes : Rest → List ℕ
-rest_bytes NoBlock = 0 ∷ 0 ∷ 0 ∷ 0 ∷ 0 ∷ 0 ∷ 0 ∷ []
-rest_bytes (Part k n j) = 0 ∷ k ∷ bytes_for 2 n ++ (0 ∷ bytes_for 2 j)
+abbrev pub rest_bytes : Option Part → List ℕ
+rest_bytes None = 0 ∷ 0 ∷ 0 ∷ 0 ∷ 0 ∷ 0 ∷ 0 ∷ []
+rest_bytes (Some p) = 0 ∷ p.kind ∷ bytes_for 2 p.count ++ (0 ∷ bytes_for 2 p.laid)
 
-abbrev pub rest_by : ℕ → List ℕ → Rest
-rest_by zero h = NoBlock
-rest_by (suc n) h = Part (get_or h 1 0) (number_from (part 2 2 h)) (number_from (part 5 2 h))
+abbrev pub rest_by : ℕ → List ℕ → Option Part
+rest_by zero h = None
+rest_by (suc n) h = unfinished (get_or h 1 0) (number_from (part 2 2 h)) (number_from (part 5 2 h))
 
 unfoldable pub image_of : Writer → List ℕ
 image_of w =

@@ -52,30 +52,30 @@ returns-then-allowance-eq0 c =
 
 pub go_on-requires : goal.go_on-requires
 go_on-requires c =
-    let z = fitting (goal.at.go_on-requires c).Else-x-ne0 in (c.in-At.is, z.fault, z.end, z.size)
+    let z = fitting (goal.at.go_on-requires c).Else-x-ne0 in (c.in-Some.is, z.fault, z.end, z.size)
 
-pub returns-in-Shut : goal.returns-in-Shut
-returns-in-Shut c =
+pub returns-in-None : goal.returns-in-None
+returns-in-None c =
     let g = c.args in
     let line = words_of g.line.now in
     let room = words_of g.room.now in (
-      sliced_back g.st g.line.now g.room.now g.allowance (fitting (goal.at.returns-in-Shut c).Else-x-ne0).even _ g.room.now
-          (back g.st g.line.now g.room.now (fitting (goal.at.returns-in-Shut c).Else-x-ne0).even g.room.now refl (λ i. omega (arith, c.type_inv.room i)))
-          (ap (λ (t : Told). sliced (tells 0 t) room) (start_is g.st g.line.now g.room.now (fitting (goal.at.returns-in-Shut c).Else-x-ne0).fault)
-          ∙ within_goes capacity g.allowance g.st line room _ refl _ (fitting (goal.at.returns-in-Shut c).Else-x-ne0).fault c.if-allowance-eq0.false c.in-Shut.is),
-      free (goal.at.returns-in-Shut c).Else-x-ne0,
+      sliced_back g.st g.line.now g.room.now g.allowance (fitting (goal.at.returns-in-None c).Else-x-ne0).even _ g.room.now
+          (back g.st g.line.now g.room.now (fitting (goal.at.returns-in-None c).Else-x-ne0).even g.room.now refl (λ i. omega (arith, c.type_inv.room i)))
+          (ap (λ (t : Told). sliced (tells 0 t) room) (start_is g.st g.line.now g.room.now (fitting (goal.at.returns-in-None c).Else-x-ne0).fault)
+          ∙ within_goes capacity g.allowance g.st line room _ refl _ (fitting (goal.at.returns-in-None c).Else-x-ne0).fault c.if-allowance-eq0.false c.in-None.is),
+      free (goal.at.returns-in-None c).Else-x-ne0,
       λ e. absurd (true_false (sym e)),
     )
 
-pub returns-in-At : goal.returns-in-At
-returns-in-At c =
+pub returns-in-Some : goal.returns-in-Some
+returns-in-Some c =
     let g = c.args in
     let line = words_of g.line.now in
     let room = words_of g.room.now in
     let next = c.go_on.new.room in (
-      sliced_back g.st g.line.now g.room.now g.allowance (fitting (goal.at.returns-in-At c).Else-x-ne0).even _ next
-          (back g.st g.line.now g.room.now (fitting (goal.at.returns-in-At c).Else-x-ne0).even next c.go_on.auto.room (λ i. omega (arith, c.type_inv.room i)))
-          (c.go_on.ensures ∙ within_goes capacity g.allowance g.st line room _ refl _ (fitting (goal.at.returns-in-At c).Else-x-ne0).fault c.if-allowance-eq0.false c.in-At.is),
-      free (goal.at.returns-in-At c).Else-x-ne0,
+      sliced_back g.st g.line.now g.room.now g.allowance (fitting (goal.at.returns-in-Some c).Else-x-ne0).even _ next
+          (back g.st g.line.now g.room.now (fitting (goal.at.returns-in-Some c).Else-x-ne0).even next c.go_on.auto.room (λ i. omega (arith, c.type_inv.room i)))
+          (c.go_on.ensures ∙ within_goes capacity g.allowance g.st line room _ refl _ (fitting (goal.at.returns-in-Some c).Else-x-ne0).fault c.if-allowance-eq0.false c.in-Some.is),
+      free (goal.at.returns-in-Some c).Else-x-ne0,
       λ e. absurd (true_false (sym e)),
     )

@@ -21,18 +21,18 @@ long : (x : After-words_of) → length x.words_of.new.out ≡ 2304
 long x = x.words_of.auto.out
 
 fits : (x : After-words_of) → length x.args.line.now / 2 ≤ length x.words_of.new.out
-fits x = omega (arith, x.if-line-gt2304.false, long x)
+fits x = omega (arith, x.if-n-gt2304.false, long x)
 
 front : (x : After-words_of) → let line = x.args.line.now in take (length line / 2) x.words_of.new.out ≡ words_of line
 front x =
     let line = x.args.line.now in
     ap (take (length line / 2)) x.words_of.ensures
-    ∙ front_words (replicate 2304 0) (words_of line) (length line / 2) (sym (length_words line)) (omega (arith, x.if-line-gt2304.false, length_words line))
+    ∙ front_words (replicate 2304 0) (words_of line) (length line / 2) (sym (length_words line)) (omega (arith, x.if-n-gt2304.false, length_words line))
 
-pub returns-then-line-gt2304 : goal.returns-then-line-gt2304
+pub returns-then-n-gt2304 : goal.returns-then-n-gt2304
 unfolding start_bytes
-returns-then-line-gt2304 c =
-    sym (pick_true _ _ (lt-ltb _ _ c.if-line-gt2304.true))
+returns-then-n-gt2304 c =
+    sym (pick_true _ _ (lt-ltb _ _ c.if-n-gt2304.true))
 
 pub slice_bounds-words-end : goal.slice_bounds-words-end
 slice_bounds-words-end c =
@@ -47,4 +47,4 @@ unfolding start_bytes
 returns c =
     let st = c.args.st in
     c.start.ensures.0 ∙ ap (λ (l : List ℕ). starts st (checked_of st.system st.mode l)) (front (goal.at.returns c).After-words_of)
-    ∙ sym (pick_false _ _ (le-ltb _ _ c.if-line-gt2304.false))
+    ∙ sym (pick_false _ _ (le-ltb _ _ c.if-n-gt2304.false))

@@ -11,6 +11,6 @@ unfolding size_of
 returns c =
     let g = c.args in (
       refl,
-      c.end_by-end.ensures ∙ ap (λ (x : System). blocks_end x.payload g.t.block g.t.flag) c.system_of-s.ensures,
+      c.end_by.ensures ∙ ap (λ (x : System). blocks_end x.payload g.t.block g.t.flag) c.system_of-payload.ensures,
       ap (λ (x : Fixed). x.size) c.requires,
     )

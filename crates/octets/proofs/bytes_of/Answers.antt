@@ -24,10 +24,8 @@ loop-i-preserved c =
     let inside : l.i < length ws = omega arith in
     let room : 2 * l.i + 1 < length a.out.now = omega arith in (
       search rules,
-      l.invariant.1,
-      search rules,
       ap₂ (λ (x y : ℕ). set (set l.out (2 * l.i) x) (2 * l.i + 1) y) c.low.ensures c.high.ensures
-          ∙ ap (λ (t : List ℕ). set (set t (2 * l.i) (w % 256)) (2 * l.i + 1) (w / 256)) l.invariant.3
+          ∙ ap (λ (t : List ℕ). set (set t (2 * l.i) (w % 256)) (2 * l.i + 1) (w / 256)) l.invariant.1
           ∙ next_two ws a.out.now l.i inside room,
     )
 
@@ -36,4 +34,4 @@ returns c =
     let l = c.loop-i in
     let a = c.args in
     let all : 2 * l.i ≡ 2 * min (length a.words.now) (length a.out.now / 2) = omega arith in
-    l.invariant.3 ∙ ap (paste a.out.now 0 (bytes_of a.words.now)) all
+    l.invariant.1 ∙ ap (paste a.out.now 0 (bytes_of a.words.now)) all

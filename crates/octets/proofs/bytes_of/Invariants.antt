@@ -1,13 +1,10 @@
 -- `octets::bytes_of` meets its contract. Assumes nothing.
 use mathlib.Core.Path.{◌≡◌}
-use Prim.Native.Nat.{◌-◌, ◌*◌, ◌/◌, ◌≤◌, min}
+use Prim.Native.Nat.{◌*◌}
 use lib.ListN.{length}
 use lib.Seq.{paste}
 use Rattle.octets.specs.Bytes.{bytes_of}
 use Rattle.octets.proofs.bytes_of.Given as goal
 
 abbrev pub invariant-loop-i : goal.invariant-loop-i
-invariant-loop-i l = (l.i ≤ l.n) × (l.n ≡ min (length l.words) (length l.initial.out / 2)) × (length l.out ≡ length l.initial.out) × (l.out ≡ paste l.initial.out 0 (bytes_of l.words) (2 * l.i))
-
-abbrev pub decreases-loop-i : goal.decreases-loop-i
-decreases-loop-i l = l.n - l.i
+invariant-loop-i l = (length l.out ≡ length l.initial.out) × (l.out ≡ paste l.initial.out 0 (bytes_of l.words) (2 * l.i))

@@ -12,7 +12,7 @@ returns-then-i-bytes c =
     let a = b.args in
     c.joined.ensures ∙ sym (word_at a.bytes.now a.i (omega (arith, b.if-i-bytes.true, length_words a.bytes.now)))
 
-pub returns : goal.returns
-returns c =
+pub returns-else-i-bytes : goal.returns-else-i-bytes
+returns-else-i-bytes c =
     let a = c.args in
     sym (get_or-eq_default (words_of a.bytes.now) 0 {n = a.i} (omega (arith, c.if-i-bytes.false, length_words a.bytes.now)))

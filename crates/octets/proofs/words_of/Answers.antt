@@ -20,9 +20,7 @@ loop-i-preserved c =
     let room : 0 + l.i < length a.out.now = omega arith in
     let word = c.joined.ensures ∙ sym (word_at a.bytes.now l.i inside) in (
       search rules,
-      l.invariant.1,
-      search rules,
-      ap₂ (λ (d : List ℕ) (x : ℕ). set d l.i x) l.invariant.3 word
+      ap₂ (λ (d : List ℕ) (x : ℕ). set d l.i x) l.invariant.1 word
           ∙ ap (λ (k : ℕ). set (paste a.out.now 0 ws l.i) k (get_or ws l.i 0)) (sym (zero-add l.i))
           ∙ paste-suc a.out.now 0 ws l.i 0 room inside
           ∙ ap (paste a.out.now 0 ws) (sym (add-one l.i)),
@@ -33,4 +31,4 @@ returns c =
     let l = c.loop-i in
     let a = c.args in
     let all : l.i ≡ min (length (words_of a.bytes.now)) (length a.out.now) = omega (arith, length_words a.bytes.now) in
-    l.invariant.3 ∙ ap (paste a.out.now 0 (words_of a.bytes.now)) all
+    l.invariant.1 ∙ ap (paste a.out.now 0 (words_of a.bytes.now)) all

@@ -1,13 +1,9 @@
 -- `octets::words_of` meets its contract. Assumes nothing.
 use mathlib.Core.Path.{◌≡◌}
-use Prim.Native.Nat.{◌-◌, ◌/◌, ◌≤◌, min}
 use lib.ListN.{length}
 use lib.Seq.{paste}
 use Rattle.octets.specs.Bytes.{words_of}
 use Rattle.octets.proofs.words_of.Given as goal
 
 abbrev pub invariant-loop-i : goal.invariant-loop-i
-invariant-loop-i l = (l.i ≤ l.n) × (l.n ≡ min (length l.bytes / 2) (length l.initial.out)) × (length l.out ≡ length l.initial.out) × (l.out ≡ paste l.initial.out 0 (words_of l.bytes) l.i)
-
-abbrev pub decreases-loop-i : goal.decreases-loop-i
-decreases-loop-i l = l.n - l.i
+invariant-loop-i l = (length l.out ≡ length l.initial.out) × (l.out ≡ paste l.initial.out 0 (words_of l.bytes) l.i)

@@ -3,11 +3,11 @@ use mathlib.Core.Path.{◌≡◌, sym, ap, ap₂, ◌∙◌}
 use mathlib.Core.List.{List, [], ◌∷◌}
 use Prim.Native.Nat.{ℕ, ◌+◌, ◌/◌, ◌%◌, ◌≤◌}
 use native.Mathlib.Omega.{arith}
-use lib.ListN.{length, take, drop, length-set}
+use lib.ListN.{length, take, drop}
 use Rattle.words.specs.Forms.{byte_word}
 use Rattle.words.specs.Class.{separator}
 use Rattle.blocks.specs.Block.{count_words}
-use Rattle.blocks.proofs.FillLaws.{six_set}
+use Rattle.blocks.proofs.FillLaws.{six_set, part_of}
 use Rattle.blocks.proofs.block.lay_head.Goals as goal
 
 -- the six words
@@ -31,27 +31,9 @@ returns-then-out-eq6 c =
     ∙ head_is a.kind a.n _ _ _ _ _ c.byte_word-word.ensures c.count_word-b0.ensures c.count_word-b1.ensures c.count_word-b2.ensures c.count_word-b3.ensures
     ∙ all-six a.out.now a.j a.kind a.n c.if-out-eq6.true c.requires
 
-pub copy_from-requires : goal.copy_from-requires
-copy_from-requires c = c.requires
-
 pub returns : goal.returns
 returns c =
     let a = c.args in
-    c.copy_from.ensures
+    c.copy_from_slice.ensures.after ∙ part_of a.j (length a.out.now) _
     ∙ ap (λ (l : List ℕ). take (length a.out.now) (drop a.j l))
     (head_is a.kind a.n _ _ _ _ _ c.byte_word-word.ensures c.count_word-b0.ensures c.count_word-b1.ensures c.count_word-b2.ensures c.count_word-b3.ensures)
-
-pub bounds-out-1 : goal.bounds-out-1
-bounds-out-1 c = simp length-set (omega (arith, c.if-out-eq6.true))
-
-pub bounds-out-2 : goal.bounds-out-2
-bounds-out-2 c = simp length-set (omega (arith, c.if-out-eq6.true))
-
-pub bounds-out-3 : goal.bounds-out-3
-bounds-out-3 c = simp length-set (omega (arith, c.if-out-eq6.true))
-
-pub bounds-out-4 : goal.bounds-out-4
-bounds-out-4 c = simp length-set (omega (arith, c.if-out-eq6.true))
-
-pub bounds-out-5 : goal.bounds-out-5
-bounds-out-5 c = simp length-set (omega (arith, c.if-out-eq6.true))

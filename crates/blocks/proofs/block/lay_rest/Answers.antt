@@ -7,28 +7,28 @@ use Rattle.words.specs.Modes.{word_of}
 use Rattle.words.specs.Class.{end_code}
 use Rattle.blocks.proofs.FillLaws.{part_map, front_long, part_long, laid_by_two}
 use Rattle.blocks.proofs.block.lay_rest.Goals as goal
-use Rattle.blocks.proofs.block.lay_rest.Goals.{After-smaller_of-a}
+use Rattle.blocks.proofs.block.lay_rest.Goals.{After-min-a}
 
 -- how many values are laid
-some : (m : After-smaller_of-a) → let a = m.args in m.smaller_of-a.result ≡ min (length a.out.now) (length a.values.now - a.j)
-some m = let a = m.args in m.smaller_of-a.ensures ∙ ap (min (length a.out.now)) m.minus_or_zero.ensures
+some : (m : After-min-a) → let a = m.args in m.min-a.result ≡ min (length a.out.now) (length a.values.now - a.j)
+some m = let a = m.args in m.min-a.ensures ∙ ap (min (length a.out.now)) m.saturating_sub.ensures
 
 pub slice_bounds-put_values-end-3 : goal.slice_bounds-put_values-end-3
 slice_bounds-put_values-end-3 c =
     let a = c.args in
-    sym (front_long (length a.values.now) a.j c.smaller_of-a.result a.out.now (some (goal.at.slice_bounds-put_values-end-3 c).After-smaller_of-a))
+    sym (front_long (length a.values.now) a.j c.min-a.result a.out.now (some (goal.at.slice_bounds-put_values-end-3 c).After-min-a))
 
 pub put_values-requires : goal.put_values-requires
 put_values-requires c =
     let a = c.args in
-    part_long a.j c.smaller_of-b.result c.smaller_of-a.result a.out.now a.values.now
-    (some (goal.at.put_values-requires c).After-smaller_of-a) c.smaller_of-b.ensures
+    part_long a.j c.min-b.result c.min-a.result a.out.now a.values.now
+    (some (goal.at.put_values-requires c).After-min-a) c.min-b.ensures
 
 pub returns : goal.returns
 returns c =
     let a = c.args in
     let f = word_of a.mode in
     let v = a.values.now in
-    let k = c.smaller_of-a.result in
-    let is = c.put_values.ensures ∙ part_map f c.smaller_of-b.result k v ∙ ap (λ (i : ℕ). take k (drop i (map f v))) c.smaller_of-b.ensures in
-    laid_by_two a.j (length v) k (map f v) (end_code ∷ []) a.out.now _ (length-map v f) (some (goal.at.returns c).After-smaller_of-a) is _ _ c.minus_or_zero-2.ensures c.put_end.ensures
+    let k = c.min-a.result in
+    let is = c.put_values.ensures ∙ part_map f c.min-b.result k v ∙ ap (λ (i : ℕ). take k (drop i (map f v))) c.min-b.ensures in
+    laid_by_two a.j (length v) k (map f v) (end_code ∷ []) a.out.now _ (length-map v f) (some (goal.at.returns c).After-min-a) is _ _ c.saturating_sub-2.ensures c.put_end.ensures

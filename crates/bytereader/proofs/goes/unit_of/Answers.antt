@@ -7,4 +7,4 @@ pub returns-then-is_variable : goal.returns-then-is_variable
 returns-then-is_variable c = sym (unit_variable _ (sym c.is_variable.ensures ∙ c.if-is_variable.true))
 
 pub returns : goal.returns
-returns c = c.requires ∙ sym (unit_fixed _ (sym c.is_variable.ensures ∙ c.if-is_variable.false))
+returns c = c.from.ensures ∙ c.requires ∙ sym (unit_fixed _ (sym c.is_variable.ensures ∙ c.if-is_variable.false))

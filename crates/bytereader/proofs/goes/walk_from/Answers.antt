@@ -104,4 +104,4 @@ unfolding walk_to
 returns c =
     let g = c.args in
     let walks : ℕ → List ℕ → _ = λ size ws. walk_fixed g.st.mode g.st.phase size ws (words_of g.room.now) in
-    c.walk_fixed.ensures.0 ∙ ap₂ walks c.requires.4 (lent (goal.at.returns c).After-system_of-s (is-ready (goal.at.returns c).Start)) ∙ sym (pick_false _ _ (fixed-line (goal.at.returns c).Else-is_variable))
+    c.walk_fixed.ensures.0 ∙ ap₂ walks (c.from.ensures ∙ c.requires.4) (lent (goal.at.returns c).After-system_of-s (is-ready (goal.at.returns c).Start)) ∙ sym (pick_false _ _ (fixed-line (goal.at.returns c).Else-is_variable))

@@ -28,7 +28,7 @@ unfolding entry_end
 returns-then-left-n c =
     let a = c.args in
     let ws = words_of a.blocks.now in
-    let cut : length ws - a.at - 2 < get_or ws (a.at + 1) 0 = omega (arith, c.if-left-n.true, c.word_at-n.ensures, length_words a.blocks.now) in
+    let cut : length ws - a.at - 2 < get_or ws (a.at + 1) 0 = omega (arith, c.if-left-n.true, c.from-n.ensures, c.word_at.ensures, length_words a.blocks.now) in
     sym (pick_false _ _ (and_none (leb 2 (length ws - a.at)) _ (lt-leb (get_or ws (a.at + 1) 0) (length ws - a.at - 2) cut)))
 
 pub returns : goal.returns
@@ -37,5 +37,5 @@ returns c =
     let a = c.args in
     let ws = words_of a.blocks.now in
     let two : 2 ≤ length ws - a.at = omega (arith, c.if-left-lt2.false, length_words a.blocks.now) in
-    let all : get_or ws (a.at + 1) 0 ≤ length ws - a.at - 2 = omega (arith, c.if-left-n.false, c.word_at-n.ensures, length_words a.blocks.now) in
-    ap (λ (n : ℕ). a.at + 2 + n) c.word_at-n.ensures ∙ sym (pick_true _ _ (and_true (le-leb 2 (length ws - a.at) two) (le-leb (get_or ws (a.at + 1) 0) (length ws - a.at - 2) all)))
+    let all : get_or ws (a.at + 1) 0 ≤ length ws - a.at - 2 = omega (arith, c.if-left-n.false, c.from-n.ensures, c.word_at.ensures, length_words a.blocks.now) in
+    ap (λ (n : ℕ). a.at + 2 + n) (c.from-n.ensures ∙ c.word_at.ensures) ∙ sym (pick_true _ _ (and_true (le-leb 2 (length ws - a.at) two) (le-leb (get_or ws (a.at + 1) 0) (length ws - a.at - 2) all)))

@@ -5,4 +5,4 @@ use Rattle.line.specs.Layout.{payload_at}
 use Rattle.bytewriter.proofs.adding.payload_at.Goals as goal
 
 pub returns : goal.returns
-returns c = c.minus_or_zero.ensures ∙ ap (λ (s : System). payload_at s) c.system_of-s.ensures
+returns c = c.saturating_sub.ensures ∙ ap (λ (s : System). payload_at s) c.system_of-s.ensures

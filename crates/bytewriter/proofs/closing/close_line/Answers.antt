@@ -9,7 +9,7 @@ use Rattle.bytewriter.proofs.Calls.{behind}
 use Rattle.bytewriter.proofs.Unlent.{lent, close_unlent}
 use Rattle.bytewriter.proofs.Given.{most_in, zeros_in, Given, part_in, part_long, line_long, close_in, close_given}
 use Rattle.bytewriter.proofs.closing.close_line.Goals as goal
-use Rattle.bytewriter.proofs.closing.close_line.Goals.{Else-not-is_lent, After-close_line-r, After-minus_or_zero-start, After-done_in}
+use Rattle.bytewriter.proofs.closing.close_line.Goals.{Else-not-is_lent, After-close_line-r, After-saturating_sub-start, After-done_in}
 
 is-lent : (c : Else-not-is_lent) → lent c.args.line.now ≡ true
 is-lent c = sym c.is_lent.ensures ∙ c.if-not-is_lent.false
@@ -20,8 +20,8 @@ given : (c : After-close_line-r) → (by_is_lent : lent c.args.line.now ≡ true
 given c by_is_lent = record { is = by_is_lent; size = refl; kept = c.close_line-r.auto.line }
 
 -- where the words behind the area start, and how many of them were laid
-starts : (c : After-minus_or_zero-start) → let a = c.args in c.minus_or_zero-start.result ≡ length a.line.now / 2 - behind a.w
-starts c = c.minus_or_zero-start.ensures ∙ ap (λ (n : ℕ). length c.args.line.now / 2 - n) c.behind_area-k.ensures
+starts : (c : After-saturating_sub-start) → let a = c.args in c.saturating_sub-start.result ≡ length a.line.now / 2 - behind a.w
+starts c = c.saturating_sub-start.ensures ∙ ap (λ (n : ℕ). length c.args.line.now / 2 - n) c.behind_area-k.ensures
 
 laid : (c : After-done_in) →
     c.done_in.result ≡ done_in c.close_line-r.result.answer (behind c.args.w)
@@ -47,8 +47,8 @@ slice_bounds-give_back-end c = part_long (given (goal.at.slice_bounds-give_back-
 pub give_back-requires : goal.give_back-requires
 give_back-requires c =
     let g = given (goal.at.give_back-requires c).After-close_line-r (is-lent (goal.at.give_back-requires c).Else-not-is_lent) in
-    (close_in g _ _ _ _ c.close_line-r.ensures.0 _ _ (starts (goal.at.give_back-requires c).After-minus_or_zero-start) (laid (goal.at.give_back-requires c).After-done_in), line_long g _)
+    (close_in g _ _ _ _ c.close_line-r.ensures.0 _ _ (starts (goal.at.give_back-requires c).After-saturating_sub-start) (laid (goal.at.give_back-requires c).After-done_in), line_long g _)
 
 pub returns : goal.returns
 returns c =
-    close_given (given (goal.at.returns c).After-close_line-r (is-lent (goal.at.returns c).Else-not-is_lent)) _ _ _ _ c.close_line-r.ensures.0 _ _ (starts (goal.at.returns c).After-minus_or_zero-start) (laid (goal.at.returns c).After-done_in) _ c.give_back.ensures
+    close_given (given (goal.at.returns c).After-close_line-r (is-lent (goal.at.returns c).Else-not-is_lent)) _ _ _ _ c.close_line-r.ensures.0 _ _ (starts (goal.at.returns c).After-saturating_sub-start) (laid (goal.at.returns c).After-done_in) _ c.give_back.ensures

@@ -1,8 +1,10 @@
 -- `hostreads::reading::serve` meets its contract: its three ways, and what comes of the call. Assumes nothing.
 use mathlib.Core.Path.{◌≡◌, refl, sym, ap, ◌∙◌}
 use mathlib.Core.Bool.{false}
+use native.Mathlib.Omega.{arith}
 use lib.ListN.{length}
-use borrow.Author.Tests.{not-true, not-false}
+use borrow.Author.Tests.{not-true, not-false, eq-eqb}
+use Rattle.lists.proofs.Tests.{pick_true}
 use Rattle.reader.specs.declared.state.Event.TheVariants.{Refused}
 use Rattle.reader.specs.Within.{tells}
 use Rattle.images.specs.ReaderImage.{state_of, is_image}
@@ -23,7 +25,8 @@ seen : (i : After-read_image-spelt)
     let x = i.read_image-spelt.result in Spelt g.state.now g.event.now x.state x.image
 seen i =
     let g = i.args in
-    let image = i.image_in-image.ensures in
+    let fits = (as_long g.state.now g.event.now 80 32 i.if-state-event.false).0 in
+    let image = i.array_of.ensures ∙ pick_true _ _ (eq-eqb 80 _ (sym fits)) in
     record {
       right = fit g.state.now g.event.now 80 32 i.if-state-event.false;
       spelt = i.read_image-spelt.ensures.0 ∙ ap state_of image;
@@ -35,9 +38,6 @@ unfolding reads_within
 returns-then-state-event c =
     let g = c.args in
     read_wrong g.allowance g.state.now g.line.now g.room.now g.event.now (misfit g.state.now g.event.now 80 32 c.if-state-event.true)
-
-pub image_in-image-requires : goal.image_in-image-requires
-image_in-image-requires c = (long c).0
 
 pub returns-then-not-spelt : goal.returns-then-not-spelt
 unfolding reads_within
@@ -57,9 +57,9 @@ returns-in-Barred c =
     let e = c.in-Barred.is in
     let g = c.args in
     let st = c.read_image-spelt.result.state in
-    let room = c.call-outcome.new.room in
+    let room = c.call.new.room in
     read_barred g.allowance g.state.now g.line.now g.room.now g.event.now (seen (goal.at.returns-in-Barred c).After-read_image-spelt) (not-false _ c.if-not-spelt.false) (tells 0 (record { event = Refused _ false; state = st })) room
-    (ap (λ (o : Outcome). left_by st g.line.now o room) (sym e) ∙ c.call-outcome.ensures.0) (ap is_barred (sym e) ∙ c.call-outcome.ensures.1) (c.call-outcome.ensures.2 (ap is_barred e)) refl
+    (ap (λ (o : Outcome). left_by st g.line.now o room) (sym e) ∙ c.call.ensures.0) (ap is_barred (sym e) ∙ c.call.ensures.1) (c.call.ensures.2 (ap is_barred e)) refl
 
 pub returns-in-Starts : goal.returns-in-Starts
 unfolding reads_within
@@ -67,10 +67,10 @@ returns-in-Starts c =
     let e = c.in-Starts.is in
     let g = c.args in
     let st = c.read_image-spelt.result.state in
-    let room = c.call-outcome.new.room in
+    let room = c.call.new.room in
     let b = c.begin.ensures in
     read_served g.allowance g.state.now g.line.now g.room.now g.event.now (seen (goal.at.returns-in-Starts c).After-read_image-spelt) (not-false _ c.if-not-spelt.false) (tells 0 (start_bytes st g.line.now)) room
-    (ap (λ (o : Outcome). left_by st g.line.now o room) (sym e) ∙ c.call-outcome.ensures.0) (ap is_barred (sym e) ∙ c.call-outcome.ensures.1) b.0 b.1 b.2
+    (ap (λ (o : Outcome). left_by st g.line.now o room) (sym e) ∙ c.call.ensures.0) (ap is_barred (sym e) ∙ c.call.ensures.1) b.0 b.1 b.2
 
 pub returns-in-Goes : goal.returns-in-Goes
 unfolding reads_within
@@ -79,8 +79,8 @@ returns-in-Goes c =
     let w = c.in-Goes.w in
     let g = c.args in
     let st = c.read_image-spelt.result.state in
-    let room = c.call-outcome.new.room in
+    let room = c.call.new.room in
     let b = c.go_on.ensures in
     let holds = not-false _ c.if-not-spelt.false in
     read_served g.allowance g.state.now g.line.now g.room.now g.event.now (seen (goal.at.returns-in-Goes c).After-read_image-spelt) holds (went_of st w) room
-    (ap (λ (o : Outcome). left_by st g.line.now o room) (sym e) ∙ c.call-outcome.ensures.0) (ap is_barred (sym e) ∙ c.call-outcome.ensures.1) b.0 (b.1 ∙ moves (seen (goal.at.returns-in-Goes c).After-read_image-spelt) holds w) b.2
+    (ap (λ (o : Outcome). left_by st g.line.now o room) (sym e) ∙ c.call.ensures.0) (ap is_barred (sym e) ∙ c.call.ensures.1) b.0 (b.1 ∙ moves (seen (goal.at.returns-in-Goes c).After-read_image-spelt) holds w) b.2

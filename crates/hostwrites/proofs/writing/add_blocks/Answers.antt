@@ -1,22 +1,17 @@
--- `hostwrites::writing::add_blocks` meets its contract: its three ways are those of every writer's call. Assumes nothing.
-use borrow.Author.Tests.{ne_eqb, eq-eqb}
+-- `hostwrites::writing::add_blocks` meets its contract: its ways are those of every writer's call. Assumes nothing.
+use mathlib.Core.Path.{refl}
+use borrow.Author.Tests.{eq-eqb}
 use Rattle.writer.specs.Batch.{batched}
 use Rattle.calls.specs.Writing.{adds_many}
-use Rattle.calls.proofs.CallLaws.{many_call, wrong, away, made, filled}
+use Rattle.calls.proofs.CallLaws.{many_call, away, made, filled}
 use Rattle.hostwrites.proofs.writing.add_blocks.Goals as goal
 
-pub returns-then-state-ne80 : goal.returns-then-state-ne80
+pub returns-in-Err : goal.returns-in-Err
 unfolding adds_many
-returns-then-state-ne80 c =
-    wrong (many_call _ _ _ _) (ne_eqb _ 80 c.if-state-ne80.true)
-
-pub returns-then-n-ne0 : goal.returns-then-n-ne0
-unfolding adds_many
-returns-then-n-ne0 c =
-    away (many_call _ _ _ _) (eq-eqb _ 80 c.if-state-ne80.false) c.image_in-image.ensures c.read_image-spelt.ensures.0 c.is_even.ensures c.write_early-fault.ensures c.read_image-spelt.ensures.1 c.early_by-n.ensures c.if-n-ne0.true
+returns-in-Err c = away (many_call _ _ _ _) refl c.is_even.ensures c.in-Err.ensures.0 c.in-Err.ensures.1
 
 pub returns : goal.returns
 unfolding adds_many
 returns c =
-    made (many_call _ _ _ _) (eq-eqb _ 80 c.if-state-ne80.false) c.image_in-image.ensures c.read_image-spelt.ensures.0 c.is_even.ensures c.write_early-fault.ensures c.read_image-spelt.ensures.1 c.early_by-n.ensures
-    c.if-n-ne0.false (batched _ _ _ _) c.add_blocks-x.ensures (filled 80 c.args.state.now _ _ c.if-state-ne80.false c.put_image.ensures) c.stop_answer.ensures
+    let (same, long, none) = c.in-Ok.ensures in
+    made (many_call _ _ _ _) refl c.is_even.ensures (eq-eqb _ 80 long) none (batched _ _ _ _) same c.add_blocks-x.ensures (filled 80 c.args.state.now _ _ long c.put_image.ensures) c.stop_answer.ensures

@@ -1,12 +1,9 @@
 -- `images::reader_image::held_reader` meets its contract: what a value of the type holds is known where the call starts, an enum's by cases. Assumes nothing.
+use Rattle.std.specs.Prelude.{Option, Some, None, ℕ}
 use mathlib.Core.Path.{◌≡◌, refl, subst}
 use mathlib.Core.Bool.{true}
 use Rattle.lists.proofs.Tests.{and_true}
 use Rattle.line.specs.Settings.{Held}
-use Rattle.course.specs.declared.Last.{Last}
-use Rattle.course.specs.declared.Last.TheVariants.{Unknown, Number}
-use Rattle.course.specs.declared.Place.{Place}
-use Rattle.course.specs.declared.Place.TheVariants.{Shut, At}
 use Rattle.machine.specs.declared.phase.Mark.TheVariants.{Typed, Nulled}
 use Rattle.machine.specs.declared.phase.Phase.{Phase}
 use Rattle.machine.specs.declared.phase.Phase.TheVariants.{Idle, Kind, First, Second, Third, Fourth, Data}
@@ -20,7 +17,7 @@ pub returns : goal.returns
 returns c =
     let st = c.args.st in
     let s = st.settings in
-    let h = c.held-t in (
+    let h = c.held in (
       refl,
       record {
         system_byte = fits_one st.system (search rules);
@@ -34,13 +31,13 @@ returns c =
       },
     )
   where
-    lasts : (x : Last) → c.args.st.last ≡ x → held_last x ≡ true
-    lasts Unknown e = refl
-    lasts (Number n) e = let g = rw e at c.well_formed.0.1.1.1.1.0 in fits_two n (search rules)
+    lasts : (x : Option ℕ) → c.args.st.last ≡ x → held_last x ≡ true
+    lasts None e = refl
+    lasts (Some n) e = let g = rw e at c.well_formed.0.1.1.1.1.0 in fits_two n (search rules)
 
-    places : (x : Place) → c.args.st.place ≡ x → held_place x ≡ true
-    places Shut e = refl
-    places (At q) e = let g = rw e at c.well_formed.0.1.1.1.1.1.1.0 in fits_eight q (search rules)
+    places : (x : Option ℕ) → c.args.st.place ≡ x → held_place x ≡ true
+    places None e = refl
+    places (Some q) e = let g = rw e at c.well_formed.0.1.1.1.1.1.1.0 in fits_eight q (search rules)
 
     phases : (x : Phase) → c.args.st.phase ≡ x → held_phase x ≡ true
     phases Idle e = refl

@@ -1,11 +1,10 @@
 -- `images::reader_image::read_image` meets its contract: the fields that the state gives stand where they were read. Assumes nothing.
+use Rattle.std.specs.Prelude.{Option, ℕ}
 use mathlib.Core.Path.{ap, ap₂, ◌∙◌, ◌≡◌}
 use mathlib.Core.Bool.{Bool, ◌&&◌}
 use lib.Dec.{eqb}
 use lib.ListN.{get_or, length}
 use Rattle.lists.specs.Lists.{same}
-use Rattle.course.specs.declared.Last.{Last}
-use Rattle.course.specs.declared.Place.{Place}
 use Rattle.machine.specs.declared.phase.Phase.{Phase}
 use Rattle.fields.specs.Frame.{last_in, place_in, held_in, shows_frame}
 use Rattle.images.specs.ReaderImage.{reader_tag, phase_byte, phase_bytes, phase_in, image_of, state_of, is_image}
@@ -24,7 +23,7 @@ returns c =
     let phase = c.phase_in-phase.ensures in (
       simp (last, c.settings_in-settings.ensures, place, phase),
       ap₂ (λ (u v : Bool). u && v)
-          (c.shows_frame.ensures ∙ ap₂ (λ (l : Last) (p : Place). shows_frame reader_tag l p b) last place)
+          (c.shows_frame.ensures ∙ ap₂ (λ (l : Option ℕ) (p : Option ℕ). shows_frame reader_tag l p b) last place)
           (c.shows_phase.ensures ∙ ap (λ (p : Phase). eqb (get_or b 7 0) (phase_byte p) && same (held_in b) (phase_bytes p)) phase)
           ∙ frame_shown reader_tag (last_in b) (place_in b) (phase_byte (phase_in b)) (phase_bytes (phase_in b)) b long (length_phase (phase_in b)),
     )

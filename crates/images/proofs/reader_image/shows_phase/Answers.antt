@@ -9,7 +9,7 @@ use Rattle.lists.specs.Lists.{same}
 use Rattle.fields.specs.Frame.{held_in}
 use Rattle.images.specs.ReaderImage.{count_bytes}
 use Rattle.fields.proofs.NumberLaws.{part_known}
-use Rattle.fields.proofs.JoinLaws.{two_of}
+use Rattle.fields.proofs.PartLaws.{two_of}
 use Rattle.images.proofs.ShownLaws.{held_shown}
 use borrow.Author.Rules.{rules}
 use Rattle.images.proofs.reader_image.shows_phase.Goals as goal

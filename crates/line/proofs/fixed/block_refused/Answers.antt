@@ -10,7 +10,7 @@ use Rattle.line.specs.declared.fixed.Fixed.{Fixed}
 use Rattle.line.specs.Fixed.{is_variable, places_of, size_of, fills_all, block_refused}
 use Rattle.line.proofs.FixedLaws.{product_lt}
 use Rattle.line.proofs.fixed.block_refused.Goals as goal
-use Rattle.line.proofs.fixed.block_refused.Goals.{Else-block-ge128, After-places_in-places}
+use Rattle.line.proofs.fixed.block_refused.Goals.{Else-block-ge128, After-from-places}
 
 -- the rule as far as the first tests have decided it
 past_two : (p block flag : ℕ) → is_variable block ≡ false → leb 128 block ≡ false → block_refused p block flag ≡ (eqb (places_of p block) 0 || (eqb flag 1 && fills_all p block))
@@ -28,11 +28,11 @@ module _ (c : Else-block-ge128) where
   small : leb 128 c.args.block ≡ false
   small = lt-leb _ _ c.if-block-ge128.false
 
-module _ (c : After-places_in-places) where
-  places : c.places_in-places.result ≡ places_of c.args.payload c.args.block
+module _ (c : After-from-places) where
+  places : c.from-places.result ≡ places_of c.args.payload c.args.block
   unfolding places_of
   places =
-      c.places_in-places.ensures ∙ ap (λ (x : Fixed). pick (eqb c.args.payload 1440) x.at270 x.at360) c.requires
+      c.from-places.ensures ∙ c.places_in.ensures ∙ ap (λ (x : Fixed). pick (eqb c.args.payload 1440) x.at270 x.at360) c.requires
 
 pub returns-then-is_variable : goal.returns-then-is_variable
 unfolding block_refused
@@ -51,17 +51,17 @@ returns-then-block-ge128 c =
 pub returns-then-places-eq0 : goal.returns-then-places-eq0
 returns-then-places-eq0 c =
     let g = c.args in
-    sym (past_two g.payload g.block g.flag (fixed (goal.at.returns-then-places-eq0 c).Else-block-ge128) (small (goal.at.returns-then-places-eq0 c).Else-block-ge128) ∙ ap (λ (z : Bool). z || (eqb g.flag 1 && fills_all g.payload g.block)) (eq-eqb _ _ (sym (places (goal.at.returns-then-places-eq0 c).After-places_in-places) ∙ c.if-places-eq0.true)))
+    sym (past_two g.payload g.block g.flag (fixed (goal.at.returns-then-places-eq0 c).Else-block-ge128) (small (goal.at.returns-then-places-eq0 c).Else-block-ge128) ∙ ap (λ (z : Bool). z || (eqb g.flag 1 && fills_all g.payload g.block)) (eq-eqb _ _ (sym (places (goal.at.returns-then-places-eq0 c).After-from-places) ∙ c.if-places-eq0.true)))
 
 pub returns-then-flag-ne1 : goal.returns-then-flag-ne1
 returns-then-flag-ne1 c =
     let g = c.args in
-    sym (past_three g.payload g.block g.flag (fixed (goal.at.returns-then-flag-ne1 c).Else-block-ge128) (small (goal.at.returns-then-flag-ne1 c).Else-block-ge128) (ne_eqb _ _ (λ e. c.if-places-eq0.false (places (goal.at.returns-then-flag-ne1 c).After-places_in-places ∙ e))) ∙ ap (λ (f : Bool). f && fills_all g.payload g.block) (ne_eqb _ _ c.if-flag-ne1.true))
+    sym (past_three g.payload g.block g.flag (fixed (goal.at.returns-then-flag-ne1 c).Else-block-ge128) (small (goal.at.returns-then-flag-ne1 c).Else-block-ge128) (ne_eqb _ _ (λ e. c.if-places-eq0.false (places (goal.at.returns-then-flag-ne1 c).After-from-places ∙ e))) ∙ ap (λ (f : Bool). f && fills_all g.payload g.block) (ne_eqb _ _ c.if-flag-ne1.true))
 
 pub overflow_mul-result : goal.overflow_mul-result
 overflow_mul-result c =
-    let n : c.places_in-places.result < 2 ^ 16 = omega arith in
-    let m : c.args.row.size < 2 ^ 16 = omega arith in
+    let n : c.from-places.result < 2 ^ 16 = omega (arith, c.from-places.ensures) in
+    let m : c.from.result < 2 ^ 16 = omega (arith, c.from.ensures) in
     record { fits = omega (arith, product_lt n m) }
 
 pub returns : goal.returns
@@ -69,6 +69,7 @@ unfolding fills_all size_of
 returns c =
     let g = c.args in
     sym
-    (past_three g.payload g.block g.flag (fixed (goal.at.returns c).Else-block-ge128) (small (goal.at.returns c).Else-block-ge128) (ne_eqb _ _ (λ e. c.if-places-eq0.false (places (goal.at.returns c).After-places_in-places ∙ e)))
+    (past_three g.payload g.block g.flag (fixed (goal.at.returns c).Else-block-ge128) (small (goal.at.returns c).Else-block-ge128) (ne_eqb _ _ (λ e. c.if-places-eq0.false (places (goal.at.returns c).After-from-places ∙ e)))
     ∙ ap (λ (f : Bool). f && fills_all g.payload g.block) (eq-eqb _ _ c.if-flag-ne1.false)
-    ∙ ap₂ (λ (n : ℕ) (x : Fixed). eqb (n * x.size) g.payload) (sym (places (goal.at.returns c).After-places_in-places)) (sym c.requires))
+    ∙ ap (λ (m : ℕ). eqb (places_of g.payload g.block * m) g.payload) (sym (c.from.ensures ∙ ap (λ (x : Fixed). x.size) c.requires))
+    ∙ ap (λ (n : ℕ). eqb (n * c.from.result) g.payload) (sym (places (goal.at.returns c).After-from-places)))

@@ -10,6 +10,6 @@ pub returns : goal.returns
 unfolding crc_words
 returns c =
     let a = c.args in
-    subst (λ (ws : List ℕ). Laid a.e ws a.words c.lay_words.result)
+    subst (λ (ws : List ℕ). Laid a.e ws a.out.now c.lay_words.new.out)
     (c.crc_words.ensures ∙ ap register_words c.crc_of-c.ensures)
     c.lay_words.ensures

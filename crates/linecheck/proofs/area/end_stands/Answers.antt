@@ -10,13 +10,13 @@ use Rattle.linecheck.proofs.area.end_stands.Goals as goal
 
 pub returns-then-flag-ne1 : goal.returns-then-flag-ne1
 unfolding end_words
-returns-then-flag-ne1 c = c.same_words.ensures ∙ ap (same c.args.end.now) (sym (pick_false (crc_words c.args.area.now) [] (ne_eqb c.args.flag 1 c.if-flag-ne1.true)))
+returns-then-flag-ne1 c = c.same.ensures ∙ ap (same c.args.end.now) (sym (pick_false (crc_words c.args.area.now) [] (ne_eqb c.args.flag 1 c.if-flag-ne1.true)))
 
 pub returns : goal.returns
 unfolding end_words crc_words
 returns c =
     let a = c.args in
-    c.same_words-2.ensures
+    c.same-2.ensures
     ∙ ap (same a.end.now)
     (c.crc_words.ensures
     ∙ ap register_words c.crc_of-c.ensures

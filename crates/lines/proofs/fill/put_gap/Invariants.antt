@@ -1,5 +1,4 @@
 -- `lines::fill::put_gap` meets its contract. Assumes nothing.
-use Prim.Native.Nat.{◌-◌}
 use lib.ListN.{length}
 use Rattle.line.specs.Layout.{gap_words}
 use Rattle.lists.proofs.Loops.{Filling}
@@ -7,6 +6,3 @@ use Rattle.lines.proofs.fill.put_gap.Given as goal
 
 abbrev pub invariant-loop-i : goal.invariant-loop-i
 invariant-loop-i l = Filling (gap_words l.index (length l.initial.out)) l.initial.out l.out l.i
-
-abbrev pub decreases-loop-i : goal.decreases-loop-i
-decreases-loop-i l = length l.initial.out - l.i

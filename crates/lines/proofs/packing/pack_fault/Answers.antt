@@ -1,5 +1,5 @@
 -- `lines::packing::pack_fault` meets its contract. Assumes nothing.
-use mathlib.Core.Path.{◌≡◌, sym, ap, ◌∙◌}
+use mathlib.Core.Path.{◌≡◌, sym, ap, ap₂, ◌∙◌}
 use mathlib.Core.Bool.{false, not}
 use Prim.Native.Nat.{ℕ, ◌+◌}
 use lib.Dec.{ltb}
@@ -58,7 +58,7 @@ pub returns : goal.returns
 unfolding pack_fault
 returns c =
     let a = c.args in
-    let room = ap (λ (n : ℕ). ltb n (a.w.used + (length a.values.now + 7))) c.gap_length.ensures in
+    let room = ap₂ (λ (n u : ℕ). ltb n (u + (length a.values.now + 7))) c.gap_length.ensures c.from.ensures in
     let lowest : LowestOf (pack_faults a.w a.long a.values.now) c.or_else.result =
     low_miss 1 (fits (goal.at.returns c).Else-not-is_fit) (low_miss 2 (possible (goal.at.returns c).Else-is_impossible) (low_miss 17 (nine (goal.at.returns c).Else-not-all_below) (low_miss 18 (le-ltb 255 (length a.values.now) c.if-n-gt255.false)
     (low_step 20 c.or_else.ensures (ap not c.is_at.ensures) (low_step 24 c.or_else-r24.ensures room low_none))))) in

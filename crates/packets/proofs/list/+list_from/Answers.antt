@@ -20,7 +20,7 @@ use Rattle.packets.proofs.list.+list_from.Goals.{In-Whole, After-list_one, After
 -- the packet that was seen
 seen : (t : ℕ) (m : In-Whole t)
     → WholeAt m.args.gap.now m.in-Whole.count
-seen t m = whole_told m.args.gap.now _ _ _ (sym m.look_at-x.ensures ∙ m.in-Whole.is)
+seen t m = whole_told m.args.gap.now _ _ _ (sym m.look_at.ensures ∙ m.in-Whole.is)
 
 -- there is room for it in out
 room : (t : ℕ) (m : In-Whole t)
@@ -97,13 +97,13 @@ overflow_add-result-in-Whole-2 t c = let h = (few t (goal.at.overflow_add-result
 pub returns-in-Nothing : goal.returns-in-Nothing
 returns-in-Nothing t c =
     let g = c.args.gap.now in
-    let none = list_nothing g (nothing_told g (sym c.look_at-x.ensures ∙ c.in-Nothing.is)) in
+    let none = list_nothing g (nothing_told g (sym c.look_at.ensures ∙ c.in-Nothing.is)) in
     ap (λ (a : Listed). outcome a c.args.out.now) c.none_listed.ensures ∙ sym (ap (λ (x : Found). listed_of x c.args.out.now) none)
 
 pub returns-in-Bad : goal.returns-in-Bad
 returns-in-Bad t c =
     let g = c.args.gap.now in
-    let none = bad_told g _ (sym c.look_at-x.ensures ∙ c.in-Bad.is) in
+    let none = bad_told g _ (sym c.look_at.ensures ∙ c.in-Bad.is) in
     ap (λ (a : Listed). outcome a c.args.out.now) c.none_listed-in-Bad.ensures ∙ sym (ap (λ (x : Found). listed_of x c.args.out.now) none)
 
 pub returns-in-Whole : goal.returns-in-Whole

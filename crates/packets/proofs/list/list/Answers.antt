@@ -17,7 +17,7 @@ use Rattle.packets.proofs.list.list.Goals.{Else-fault-ne0}
 clean : (e : Else-fault-ne0) → let a = e.args in line_fault a.system a.mode a.line.now ≡ 0
 clean e =
     let a = e.args in
-    sym (ap (λ (x : Checked). x.fault) e.check-seen.ensures ∙ checked_fault a.system a.mode a.line.now []) ∙ e.if-fault-ne0.false
+    sym (ap (λ (x : Checked). x.fault) e.check-fault.ensures ∙ checked_fault a.system a.mode a.line.now []) ∙ e.if-fault-ne0.false
 
 pub returns-then-out-gap : goal.returns-then-out-gap
 returns-then-out-gap c =
@@ -28,7 +28,7 @@ returns-then-out-gap c =
 pub returns-then-fault-ne0 : goal.returns-then-fault-ne0
 returns-then-fault-ne0 c =
     let a = c.args in
-    let is = ap (λ (x : Checked). x.fault) c.check-seen.ensures ∙ checked_fault a.system a.mode a.line.now a.out.now in
+    let is = ap (λ (x : Checked). x.fault) c.check-fault.ensures ∙ checked_fault a.system a.mode a.line.now a.out.now in
     ap (λ (x : Listed). outcome x a.out.now) c.none_listed-then-fault-ne0.ensures
     ∙ sym (list_fault_lem a.system a.mode a.line.now a.out.now (c.if-out-gap.false ∙ c.gap_length-gap.ensures) _ (sym is) c.if-fault-ne0.true)
 

@@ -1,7 +1,8 @@
 -- `packets::packet::is_flag` meets its contract. Assumes nothing.
-use mathlib.Core.Path.{sym}
-use Rattle.packets.proofs.PacketLaws.{no_flag}
+use mathlib.Core.Path.{refl}
+use Rattle.line.specs.Header.{flag_words}
+use Rattle.line.proofs.Fronts.{stands}
 use Rattle.packets.proofs.packet.is_flag.Goals as goal
 
-pub returns-then-gap-lt3 : goal.returns-then-gap-lt3
-returns-then-gap-lt3 c = sym (no_flag c.args.gap.now c.if-gap-lt3.true)
+pub returns : goal.returns
+returns c = stands _ flag_words flag_words c.args.gap.now c.starts_with.ensures.value refl

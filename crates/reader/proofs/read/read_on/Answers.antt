@@ -45,12 +45,6 @@ walk_from-x-requires c =
 pub overflow_add-q : goal.overflow_add-q
 overflow_add-q c = let h = small (goal.at.overflow_add-q c).After-walk_from-x in search rules
 
-pub tell-requires : goal.tell-requires
-tell-requires c = search rules
-
-pub shape_of-room : goal.shape_of-room
-shape_of-room c = search rules
-
 pub returns : goal.returns
 returns c =
     let g = c.args in

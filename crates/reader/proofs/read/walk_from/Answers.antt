@@ -79,5 +79,5 @@ returns c =
     let g = c.args in
     let walks : ℕ → List ℕ → _ = λ size ws. walk_fixed g.st.mode g.st.phase size ws g.room.now in
     c.walk_fixed.ensures.0
-    ∙ ap₂ walks c.requires.4 (spanned (goal.at.returns c).After-system_of-s).words
+    ∙ ap₂ walks (c.from.ensures ∙ c.requires.4) (spanned (goal.at.returns c).After-system_of-s).words
     ∙ sym (pick_false _ _ (fixed-line (goal.at.returns c).Else-is_variable))

@@ -9,17 +9,17 @@ use Rattle.sums.proofs.crc.crc_of.Goals as goal
 pub crc_short-requires : goal.crc_short-requires
 crc_short-requires c = mod-lt _ (lit< tt)
 
-pub returns-then-s-lt456 : goal.returns-then-s-lt456
-returns-then-s-lt456 c = c.crc_short.ensures ∙ crc_register _ _
+pub returns-in-0-to-455 : goal.returns-in-0-to-455
+returns-in-0-to-455 c = c.crc_short.ensures ∙ crc_register _ _
 
 pub crc_long-requires : goal.crc_long-requires
 crc_long-requires c = (mod-lt _ (lit< tt), (search rules, search rules))
 
-pub returns-then-s-le1920 : goal.returns-then-s-le1920
-returns-then-s-le1920 c = c.crc_long.ensures ∙ crc_register _ _
+pub returns-in-456-to-1920 : goal.returns-in-456-to-1920
+returns-in-456-to-1920 c = c.crc_long.ensures ∙ crc_register _ _
 
 pub crc_pieces-requires : goal.crc_pieces-requires
 crc_pieces-requires c = mod-lt _ (lit< tt)
 
-pub returns : goal.returns
-returns c = c.crc_pieces.ensures ∙ crc_register _ _
+pub returns-in_default : goal.returns-in_default
+returns-in_default c = c.crc_pieces.ensures ∙ crc_register _ _

@@ -1,12 +1,12 @@
 -- `sums::crc::crc_short` meets its contract. Assumes nothing.
 use mathlib.Core.Path.{◌≡◌}
-use Prim.Native.Nat.{◌-◌, ◌^◌, ◌<◌, ◌≤◌}
-use lib.ListN.{length, drop}
+use Prim.Native.Nat.{◌^◌, ◌<◌}
+use lib.ListN.{length}
 use Rattle.words.specs.Crc.{crc_of}
 use Rattle.sums.proofs.crc.crc_short.Given as goal
 
-abbrev pub invariant-loop-i : goal.invariant-loop-i
-invariant-loop-i l = (l.i ≤ length l.s) × ((l.x < 2 ^ 18) × (crc_of l.x (drop l.i l.s) ≡ crc_of l.c l.s))
+abbrev pub invariant-loop-front : goal.invariant-loop-front
+invariant-loop-front l = (l.x < 2 ^ 18) × (crc_of l.x l.left ≡ crc_of l.c l.s)
 
-abbrev pub decreases-loop-i : goal.decreases-loop-i
-decreases-loop-i l = length l.s - l.i
+abbrev pub decreases-loop-front : goal.decreases-loop-front
+decreases-loop-front l = length l.left

@@ -1,98 +1,44 @@
-use Rattle.std.proofs.Common.{ℕ, ◌-◌, ◌/◌, ◌≤◌, List, length, sym, refl, ap, ◌∙◌, subst, arith, rules}
-use native.Mathlib.Nat.{sub-zero}
-use Rattle.machine.specs.Places.{places_in, place_room, walk_places}
-use Rattle.machine.proofs.WalkLaws.{past_zero}
-use Rattle.machine.proofs.PlaceLaws.{walked_as, turn_stops, turn_goes, turns_end, place_fits, one_left, none_left, values_fit, place_some}
-use borrow.Author.Rules.{rules}
+use Rattle.std.proofs.Common.{ℕ, ◌+◌, ◌-◌, ◌≤◌, ◌<◌, List, map, length, sym, ap, ap₂, ◌∙◌, arith}
+use Rattle.words.specs.Modes.{value_of}
+use Rattle.machine.specs.Places.{met_at, place_room}
+use Rattle.machine.proofs.PlaceLaws.{turn_stops, turn_goes, turns_end, one_left, none_left}
+use Rattle.walks.proofs.places.see_all.Given.{Over}
 use Rattle.walks.proofs.places.see_all.Goals as goal
+use Rattle.walks.proofs.places.see_all.Goals.{In-loop-i}
 
-pub loop-i-init : goal.loop-i-init
-loop-i-init c =
-    let a = c.args in
-    (omega arith, refl, λ p. past_zero _ ∙ ap (λ (n : ℕ). walk_places a.mode p (places_in a.size (n / a.size) a.words.now) a.room.now) (sub-zero (length a.words.now)))
-
-pub overflow_add-e : goal.overflow_add-e
-overflow_add-e c =
-    let l = c.loop-i in
-    let h = place_fits _ _ _ l.invariant.0 c.loop-i-test.true in
-    search rules
-
-pub offset_bounds-words-i : goal.offset_bounds-words-i
-offset_bounds-words-i c =
-    let l = c.loop-i in
-    let h = place_fits _ _ _ l.invariant.0 c.loop-i-test.true in
-    search rules
-
-pub slice_bounds-met_at-end : goal.slice_bounds-met_at-end
-slice_bounds-met_at-end c =
-    let l = c.loop-i in
-    let h = place_fits _ _ _ l.invariant.0 c.loop-i-test.true in
-    search rules
-
-pub met_at-met-requires : goal.met_at-met-requires
-met_at-met-requires c =
-    let l = c.loop-i in
-    place_some c.args.size l.i c.args.words.now c.requires.0 (place_fits _ _ _ l.invariant.0 c.loop-i-test.true)
-
-pub overflow_add-i : goal.overflow_add-i
-overflow_add-i c =
-    let l = c.loop-i in
-    let h = place_fits _ _ _ l.invariant.0 c.loop-i-test.true in
-    search rules
-
-pub offset_bounds-words-i-then-not-is_nothing : goal.offset_bounds-words-i-then-not-is_nothing
-offset_bounds-words-i-then-not-is_nothing c =
-    let l = c.loop-i in
-    let h = place_fits _ _ _ l.invariant.0 c.loop-i-test.true in
-    search rules
-
-pub slice_bounds-put_place-end : goal.slice_bounds-put_place-end
-slice_bounds-put_place-end c =
-    let l = c.loop-i in
-    let h = place_fits _ _ _ l.invariant.0 c.loop-i-test.true in
-    search rules
-
-pub put_place-requires : goal.put_place-requires
-put_place-requires c =
-    let l = c.loop-i in
-    let p = c.requires in
-    let a = c.args in
-    values_fit a.size l.i _ a.words.now (subst (λ (r : List ℕ). a.size - 1 ≤ length r) (sym l.invariant.1) p.1)
-
-pub shape_of-room-then-not-is_nothing : goal.shape_of-room-then-not-is_nothing
-shape_of-room-then-not-is_nothing c = c.put_place.auto.room ∙ ap length c.loop-i.invariant.1
+-- a whole place is left
+fits : (g : Over) (t : In-loop-i g) → t.loop-i.i + t.args.size ≤ length (g.P.Piece.words t.args.words.now)
+fits g t = omega (arith, t.loop-i-test.true, t.loop-i.invariant.0, t.count-long.ensures)
 
 pub returns-then-not-is_nothing : goal.returns-then-not-is_nothing
-returns-then-not-is_nothing c = λ p.
+returns-then-not-is_nothing g c = λ p.
     let l = c.loop-i in
     let a = c.args in
-    let h = place_fits _ _ _ l.invariant.0 c.loop-i-test.true in
-    walked_as p _ _ _ _ _ c.met_after.ensures.0 c.met_after.ensures.1
-    ∙ turn_stops a.mode p a.size c.requires.0 _ _ l.i a.words.now a.room.now c.met_at-met.result (one_left _ _ _ c.requires.0 h) h c.met_at-met.ensures
-    _ (l.invariant.2 p) _ (sym c.is_nothing.ensures ∙ c.if-not-is_nothing.true)
-    (c.put_place.ensures ∙ ap (place_room c.met_at-met.result _) l.invariant.1)
-
-pub loop-i-smaller : goal.loop-i-smaller
-loop-i-smaller c =
-    omega (arith, c.loop-i-test.true, c.requires.0)
+    let ws = g.P.Piece.words a.words.now in
+    let met = c.met_at-met.result in
+    let h = fits g (goal.at.returns-then-not-is_nothing g c).In-loop-i in
+    let is = c.met_at-met.ensures ∙ ap (met_at a.mode) c.part.ensures in
+    let laid = c.put_place.ensures
+    ∙ ap₂ (λ (vs r : List ℕ). place_room met (map (value_of a.mode) vs) r) c.part-then-not-is_nothing.ensures (ap g.P.Piece.words l.invariant.1) in
+    turn_stops a.mode p a.size c.requires.0 _ _ l.i ws (g.P.Piece.words a.room.now) met (one_left _ _ _ c.requires.0 h) h is
+    _ (l.invariant.2 p) _ (sym c.is_nothing.ensures ∙ c.if-not-is_nothing.true) laid
 
 pub loop-i-preserved : goal.loop-i-preserved
-loop-i-preserved c =
+loop-i-preserved g c =
     let l = c.loop-i in
     let a = c.args in
-    let h = place_fits _ _ _ l.invariant.0 c.loop-i-test.true in (
+    let h = fits g (goal.at.loop-i-preserved g c).In-loop-i in
+    let is = c.met_at-met.ensures ∙ ap (met_at a.mode) c.part.ensures in (
       h,
       l.invariant.1,
-      λ p. turn_goes a.mode p a.size c.requires.0 _ _ l.i a.words.now a.room.now c.met_at-met.result (one_left _ _ _ c.requires.0 h) h c.met_at-met.ensures
+      λ p. turn_goes a.mode p a.size c.requires.0 _ _ l.i (g.P.Piece.words a.words.now) (g.P.Piece.words a.room.now) c.met_at-met.result (one_left _ _ _ c.requires.0 h) h is
           _ (l.invariant.2 p) (sym c.is_nothing.ensures ∙ c.if-not-is_nothing.false),
     )
 
-pub shape_of-room : goal.shape_of-room
-shape_of-room c = ap length c.loop-i.invariant.1
-
 pub returns : goal.returns
-returns c = λ p.
+returns g c = λ p.
     let l = c.loop-i in
     let a = c.args in
-    walked_as p _ _ _ _ _ c.met_after-2.ensures.0 c.met_after-2.ensures.1
-    ∙ turns_end a.mode p a.size c.requires.0 _ l.i a.words.now a.room.now _ _ (none_left _ _ _ c.loop-i-test.false) l.invariant.1 (l.invariant.2 p)
+    let ws = g.P.Piece.words a.words.now in
+    let none : length ws - l.i < a.size = omega (arith, c.loop-i-test.false, c.count-long.ensures) in
+    turns_end a.mode p a.size c.requires.0 _ l.i ws (g.P.Piece.words a.room.now) _ _ (none_left _ _ _ none) (ap g.P.Piece.words l.invariant.1) (l.invariant.2 p)

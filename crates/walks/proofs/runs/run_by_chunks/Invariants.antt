@@ -4,7 +4,9 @@ use Rattle.machine.specs.Runs.{run_of}
 use Rattle.walks.proofs.runs.run_by_chunks.Given as goal
 
 abbrev pub invariant-loop-i : goal.invariant-loop-i
-invariant-loop-i l = (l.i ≤ length l.words) × (l.i + run_of l.mode (drop l.i l.words) ≡ run_of l.mode l.words)
+invariant-loop-i g l =
+    let ws = g.P.Piece.words l.words in
+    (l.i ≤ length ws) × (l.i + run_of l.mode (drop l.i ws) ≡ run_of l.mode ws)
 
 abbrev pub decreases-loop-i : goal.decreases-loop-i
-decreases-loop-i l = length l.words - l.i
+decreases-loop-i g l = l.long - l.i

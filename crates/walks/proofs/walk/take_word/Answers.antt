@@ -5,27 +5,29 @@ use Rattle.machine.specs.Machine.{step_of}
 use Rattle.machine.specs.Walk.{stored}
 use Rattle.machine.proofs.StepLaws.{step_classed}
 use Rattle.machine.proofs.Kept.{step_steady}
+use Rattle.walks.proofs.walk.take_word.Given.{Over}
 use Rattle.walks.proofs.walk.take_word.Goals as goal
 use Rattle.walks.proofs.walk.take_word.Goals.{After-step_by-s}
 
 -- the step is that of the word
-step_is : (s : After-step_by-s) →
-    let g = s.args in
-    s.step_by-s.result ≡ step_of g.mode (length g.room.now) g.phase g.w
-step_is s =
-    let g = s.args in
-    s.step_by-s.ensures ∙ step_classed g.mode (length g.room.now) g.phase g.w _ s.class_of.ensures.0
+step_is : (g : Over) (s : After-step_by-s g) →
+    let a = s.args in
+    s.step_by-s.result ≡ step_of a.mode (length (g.P.Piece.words a.room.now)) a.phase a.w
+step_is g s =
+    let a = s.args in
+    s.step_by-s.ensures ∙ step_classed a.mode s.count.result a.phase a.w _ s.class_of.ensures.0 ∙ ap (λ (n : ℕ). step_of a.mode n a.phase a.w) s.count.ensures
 
 pub put_value-requires : goal.put_value-requires
-put_value-requires c = λ e.
-    let g = c.args in
+put_value-requires g c = λ e.
+    let a = c.args in
+    let is = step_is g (goal.at.put_value-requires g c).After-step_by-s in
     rw c.collected_of.ensures
-    ((step_steady g.mode (length g.room.now) g.phase g.w).inside (sym (ap (λ (x : Step). x.keeps) (step_is (goal.at.put_value-requires c).After-step_by-s)) ∙ e))
+    ((step_steady a.mode (length (g.P.Piece.words a.room.now)) a.phase a.w).inside (sym (ap (λ (x : Step). x.keeps) is) ∙ e))
 
 pub returns : goal.returns
-returns c =
-    let g = c.args in (
-      step_is (goal.at.returns c).After-step_by-s,
+returns g c =
+    let a = c.args in (
+      step_is g (goal.at.returns g c).After-step_by-s,
       c.put_value.ensures
-          ∙ ap₂ (λ (m x : ℕ). stored c.step_by-s.result.keeps m x g.room.now) c.collected_of.ensures c.value_of.ensures,
+          ∙ ap₂ (λ (m x : ℕ). stored c.step_by-s.result.keeps m x (g.P.Piece.words a.room.now)) c.collected_of.ensures c.value_of.ensures,
     )

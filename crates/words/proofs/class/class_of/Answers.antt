@@ -18,8 +18,8 @@ returns-then-w-eq-END_CODE c =
     (c.class_of_bit.ensures ∙ ap class_of_bit c.bit_in.ensures
     ∙ ap (λ (l : List ℕ). class_in l 778) t.classes.ensures ∙ table_class 778 ∙ ap class_of (sym e.if-w-eq-END_CODE.true))
 
-pub returns : goal.returns
+pub returns-else-w-eq-END_CODE : goal.returns-else-w-eq-END_CODE
 unfolding class_in
-returns c =
+returns-else-w-eq-END_CODE c =
     let w = c.args.w in
-    class_numbered w _ (c.class_of_bit-2.ensures ∙ ap class_of_bit c.bit_of.ensures ∙ table_class w)
+    class_numbered w _ (c.class_of_bit-else-w-eq-END_CODE.ensures ∙ ap class_of_bit c.bit_of.ensures ∙ table_class w)

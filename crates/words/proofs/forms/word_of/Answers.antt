@@ -3,14 +3,7 @@ use mathlib.Core.Path.{sym, ◌∙◌}
 use borrow.Author.Tests.{eq-eqb, ne_eqb}
 use Rattle.lists.proofs.Tests.{pick_true, pick_false}
 use Rattle.words.specs.Modes.{word_of}
-use borrow.Author.Rules.{rules}
 use Rattle.words.proofs.forms.word_of.Goals as goal
-
-pub byte_word-requires : goal.byte_word-requires
-byte_word-requires c = search rules
-
-pub data_word-requires : goal.data_word-requires
-data_word-requires c = search rules
 
 pub returns-then-mode-eq8 : goal.returns-then-mode-eq8
 unfolding word_of

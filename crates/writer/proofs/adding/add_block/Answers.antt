@@ -21,7 +21,7 @@ stands : (h : After-held_in-h) →
     Stands a.w h.ask-x.result.ground h.held_in-h.result (length a.line.now)
 stands h =
     let a = h.args in
-    stands_in a.w _ _ (length a.line.now) (sym h.ask-x.ensures.0 ∙ h.if-early-ne0.false) h.ask-x.ensures.1 h.held_in-h.ensures
+    stands_in a.w _ _ (length a.line.now) (sym h.ask-x.ensures.0 ∙ h.if-x-ne0.false) h.ask-x.ensures.1 h.held_in-h.ensures
 
 -- nothing was refused, and the line is a fixed one
 clear : (q : After-place_of-place) →
@@ -41,12 +41,12 @@ found q by_stands =
     let a = q.args in
     place_stands a.line.now (by_stands) a.kind a.values.now (clear q) (fixed q) _ q.place_of-place.ensures
 
-pub returns-then-early-ne0 : goal.returns-then-early-ne0
-returns-then-early-ne0 c =
+pub returns-then-x-ne0 : goal.returns-then-x-ne0
+returns-then-x-ne0 c =
     let a = c.args in
     adds_numbered a.w a.line.now a.kind a.values.now _
     (add_refused a.w a.line.now a.kind a.values.now _
-    (early_fault a.w (length a.line.now) a.kind a.values.now _ c.ask-x.ensures.0 c.if-early-ne0.true) c.if-early-ne0.true)
+    (early_fault a.w (length a.line.now) a.kind a.values.now _ c.ask-x.ensures.0 c.if-x-ne0.true) c.if-x-ne0.true)
 
 pub block_fault-fault-requires : goal.block_fault-fault-requires
 block_fault-fault-requires c = size_by (stands c)
@@ -72,8 +72,8 @@ returns-then-is_variable c =
 pub overflow_add-a : goal.overflow_add-a
 overflow_add-a c = let z = sizes (found (goal.at.overflow_add-a c).After-place_of-place (stands (goal.at.overflow_add-a c).After-held_in-h)) in omega (arith, z.within, z.short, z.ends)
 
-pub overflow_add-e : goal.overflow_add-e
-overflow_add-e c = let z = sizes (found (goal.at.overflow_add-e c).After-place_of-place (stands (goal.at.overflow_add-e c).After-held_in-h)) in omega (arith, z.within, z.short, z.ends)
+pub overflow_add-a-2 : goal.overflow_add-a-2
+overflow_add-a-2 c = let z = sizes (found (goal.at.overflow_add-a-2 c).After-place_of-place (stands (goal.at.overflow_add-a-2 c).After-held_in-h)) in omega (arith, z.within, z.short, z.ends)
 
 pub offset_bounds-line-a : goal.offset_bounds-line-a
 offset_bounds-line-a c = let z = sizes (found (goal.at.offset_bounds-line-a c).After-place_of-place (stands (goal.at.offset_bounds-line-a c).After-held_in-h)) in omega (arith, z.within, z.short, z.ends)

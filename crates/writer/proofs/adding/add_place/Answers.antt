@@ -34,7 +34,7 @@ stands : (h : After-held_in-h) →
     Stands a.w h.ask-x.result.ground h.held_in-h.result (length (zeros a.long))
 stands h =
     let a = h.args in
-    zeros_stand a.w _ _ a.long (sym h.ask-x.ensures.0 ∙ h.if-early-ne0.false) h.ask-x.ensures.1 h.held_in-h.ensures
+    zeros_stand a.w _ _ a.long (sym h.ask-x.ensures.0 ∙ h.if-x-ne0.false) h.ask-x.ensures.1 h.held_in-h.ensures
 
 -- nothing was refused, and the line is a fixed one
 clear : (q : After-place_of-p) →
@@ -54,11 +54,11 @@ returns-then-is_variable-place c =
     place_unfit a.w a.long a.kind a.values.now a.place.now
     (ap (λ (b : Bool). b || not (eqb (length a.place.now) (length a.values.now + 1))) (sym c.is_variable.ensures) ∙ c.if-is_variable-place.true)
 
-pub returns-then-early-ne0 : goal.returns-then-early-ne0
-returns-then-early-ne0 c =
+pub returns-then-x-ne0 : goal.returns-then-x-ne0
+returns-then-x-ne0 c =
     let a = c.args in
-    place_refused a.w a.long a.kind a.values.now a.place.now (fit (goal.at.returns-then-early-ne0 c).Else-is_variable-place) _
-    (early_fault a.w a.long a.kind a.values.now _ c.ask-x.ensures.0 c.if-early-ne0.true) c.if-early-ne0.true
+    place_refused a.w a.long a.kind a.values.now a.place.now (fit (goal.at.returns-then-x-ne0 c).Else-is_variable-place) _
+    (early_fault a.w a.long a.kind a.values.now _ c.ask-x.ensures.0 c.if-x-ne0.true) c.if-x-ne0.true
 
 pub block_fault-fault-requires : goal.block_fault-fault-requires
 block_fault-fault-requires c = size_by (stands c)

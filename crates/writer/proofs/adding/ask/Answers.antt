@@ -29,6 +29,6 @@ returns c =
         block = refl;
         size = c.look-x.ensures.2;
         end = c.look-x.ensures.1;
-        start = c.minus_or_zero-start.ensures ∙ ap (λ (s : System). s.length - s.payload) c.system_of-s.ensures;
+        start = c.saturating_sub.ensures ∙ ap (λ (s : System). s.length - s.payload) c.system_of-s.ensures;
       },
     )

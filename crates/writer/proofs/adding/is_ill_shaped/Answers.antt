@@ -22,5 +22,5 @@ returns c =
     let a = c.args in
     let fixed = is_at a.place && not (is_variable a.block) in
     ap₂ (λ (f : Bool) (s : ℕ). ltb 255 a.kind || (f && (not (eqb (a.n + 1) s) || eqb a.kind 0)))
-    (ap₂ (λ (x y : Bool). x && not y) c.is_at.ensures c.is_variable.ensures) c.requires
+    (ap₂ (λ (x y : Bool). x && not y) c.is_at.ensures c.is_variable.ensures) (c.from.ensures ∙ c.requires)
     ∙ sym (ap (λ (b : Bool). b || (ltb 255 a.kind || (fixed && (not (eqb (a.n + 1) (size_of a.block)) || eqb a.kind 0)))) (le-ltb 16384 a.n c.if-n-gt16384.false))

@@ -24,8 +24,8 @@ pub overflow_add-a : goal.overflow_add-a
 overflow_add-a c = let r = room (goal.at.overflow_add-a c).After-laid_of-laid in omega (arith, r.free, r.within, r.short)
 
 -- all that is left
-pub overflow_add-e : goal.overflow_add-e
-overflow_add-e c = let r = room (goal.at.overflow_add-e c).After-laid_of-laid in omega (arith, r.free, r.within, r.short, c.if-left-room.true)
+pub overflow_add-a-then-left-room : goal.overflow_add-a-then-left-room
+overflow_add-a-then-left-room c = let r = room (goal.at.overflow_add-a-then-left-room c).After-laid_of-laid in omega (arith, r.free, r.within, r.short, c.if-left-room.true)
 
 pub offset_bounds-line-a : goal.offset_bounds-line-a
 offset_bounds-line-a c = let r = room (goal.at.offset_bounds-line-a c).After-laid_of-laid in omega (arith, r.free, r.within, r.short)
@@ -41,12 +41,12 @@ returns-then-left-room c w s =
     let j = c.laid_of-laid.result in
     let on =
     part_filled c.args.line.now (c.args.g.start + c.place_of-place.result) (length c.args.values.now + 7 - j) c.args.g.mode c.args.kind j c.args.h.crc _
-    c.args.values.now _ (room (goal.at.returns-then-left-room c).After-laid_of-laid).laid (le_refl _) c.lay_on-c.ensures in
+    c.args.values.now _ (room (goal.at.returns-then-left-room c).After-laid_of-laid).laid (le_refl _) c.lay_on-crc.ensures in
     whole_laid c.args.line.now s c.args.kind c.args.values.now c.requires.1 c.requires.2 _ _ c.place_of-place.ensures c.laid_of-laid.ensures _ _ on.1 c.if-left-room.true on.0
 
 -- what fits
-pub overflow_add-e-2 : goal.overflow_add-e-2
-overflow_add-e-2 c = let r = room (goal.at.overflow_add-e-2 c).After-laid_of-laid in omega (arith, r.free, r.within, r.short)
+pub overflow_add-a-2 : goal.overflow_add-a-2
+overflow_add-a-2 c = let r = room (goal.at.overflow_add-a-2 c).After-laid_of-laid in omega (arith, r.free, r.within, r.short)
 
 pub offset_bounds-line-a-2 : goal.offset_bounds-line-a-2
 offset_bounds-line-a-2 c = let r = room (goal.at.offset_bounds-line-a-2 c).After-laid_of-laid in omega (arith, r.free, r.within, r.short)
@@ -74,5 +74,5 @@ returns c w s =
     let p = c.place_of-place.result in
     let on =
     part_filled c.args.line.now (c.args.g.start + p) (c.args.g.end - p) c.args.g.mode c.args.kind c.laid_of-laid.result c.args.h.crc _
-    c.args.values.now _ (room (goal.at.returns c).After-laid_of-laid).laid (omega (arith, c.if-left-room.false)) c.lay_on-c-2.ensures in
+    c.args.values.now _ (room (goal.at.returns c).After-laid_of-laid).laid (omega (arith, c.if-left-room.false)) c.lay_on-crc-2.ensures in
     cut_laid c.args.line.now s c.args.kind c.args.values.now c.requires.1 c.requires.2 _ _ c.place_of-place.ensures c.laid_of-laid.ensures _ _ on.1 c.if-left-room.false on.0

@@ -13,12 +13,12 @@ stands : (h : After-held_in) →
     Stands a.w h.ask-x.result.ground h.held_in.result (length a.line.now)
 stands h =
     let a = h.args in
-    stands_in a.w _ _ (length a.line.now) (sym h.ask-x.ensures.0 ∙ h.if-fault-ne0.false) h.ask-x.ensures.1 h.held_in.ensures
+    stands_in a.w _ _ (length a.line.now) (sym h.ask-x.ensures.0 ∙ h.if-x-ne0.false) h.ask-x.ensures.1 h.held_in.ensures
 
-pub returns-then-fault-ne0 : goal.returns-then-fault-ne0
-returns-then-fault-ne0 c =
+pub returns-then-x-ne0 : goal.returns-then-x-ne0
+returns-then-x-ne0 c =
     let a = c.args in
-    batches_numbered a.w a.line.now a.blocks.now _ (batch_refused a.w a.line.now a.blocks.now _ c.ask-x.ensures.0 c.if-fault-ne0.true)
+    batches_numbered a.w a.line.now a.blocks.now _ (batch_refused a.w a.line.now a.blocks.now _ c.ask-x.ensures.0 c.if-x-ne0.true)
 
 pub lay_all-r-requires : goal.lay_all-r-requires
 lay_all-r-requires c = record { w = c.args.w; stands = stands (goal.at.lay_all-r-requires c).After-held_in }
@@ -27,4 +27,4 @@ pub returns : goal.returns
 returns c =
     let a = c.args in
     batches_numbered a.w a.line.now a.blocks.now _
-    (batch_done a.line.now a.blocks.now c.lay_all-r.result _ (stands (goal.at.returns c).After-held_in) c.held_in.ensures (sym c.ask-x.ensures.0 ∙ c.if-fault-ne0.false) c.lay_all-r.ensures _ c.state_with.ensures)
+    (batch_done a.line.now a.blocks.now c.lay_all-r.result _ (stands (goal.at.returns c).After-held_in) c.held_in.ensures (sym c.ask-x.ensures.0 ∙ c.if-x-ne0.false) c.lay_all-r.ensures _ c.state_with.ensures)

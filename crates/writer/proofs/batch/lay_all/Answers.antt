@@ -18,11 +18,11 @@ pub returns-then-e-eq0 : goal.returns-then-e-eq0
 returns-then-e-eq0 c =
     run_is _ _ _ _ _ c.ended.ensures (breaks_off c.loop-at.invariant c.loop-at-test.true _ c.entry_end-e.ensures c.if-e-eq0.true)
 
-pub overflow_add-from : goal.overflow_add-from
-overflow_add-from c = let x = entry c in omega (arith, x.head, x.within)
+pub overflow_add-at : goal.overflow_add-at
+overflow_add-at c = let x = entry (goal.at.overflow_add-at c).Else-e-eq0 in omega (arith, x.head, x.within)
 
-pub offset_bounds-blocks-from : goal.offset_bounds-blocks-from
-offset_bounds-blocks-from c = let x = entry (goal.at.offset_bounds-blocks-from c).Else-e-eq0 in omega (arith, x.head, x.within)
+pub offset_bounds-blocks-at-in-loop-at : goal.offset_bounds-blocks-at-in-loop-at
+offset_bounds-blocks-at-in-loop-at c = let x = entry (goal.at.offset_bounds-blocks-at-in-loop-at c).Else-e-eq0 in omega (arith, x.head, x.within)
 
 pub slice_bounds-lay_entry-count : goal.slice_bounds-lay_entry-count
 slice_bounds-lay_entry-count c = let x = entry (goal.at.slice_bounds-lay_entry-count c).Else-e-eq0 in omega (arith, x.head, x.within)

@@ -47,8 +47,8 @@ returns-then-is_variable c w s = c.lay_part.ensures w s
 pub overflow_add-a : goal.overflow_add-a
 overflow_add-a c = let z = sizes (found (goal.at.overflow_add-a c).After-place_of-place (clear (goal.at.overflow_add-a c).Else-fault-ne0)) in omega (arith, z.within, z.short, z.ends)
 
-pub overflow_add-e : goal.overflow_add-e
-overflow_add-e c = let z = sizes (found (goal.at.overflow_add-e c).After-place_of-place (clear (goal.at.overflow_add-e c).Else-fault-ne0)) in omega (arith, z.within, z.short, z.ends)
+pub overflow_add-a-2 : goal.overflow_add-a-2
+overflow_add-a-2 c = let z = sizes (found (goal.at.overflow_add-a-2 c).After-place_of-place (clear (goal.at.overflow_add-a-2 c).Else-fault-ne0)) in omega (arith, z.within, z.short, z.ends)
 
 pub offset_bounds-line-a : goal.offset_bounds-line-a
 offset_bounds-line-a c = let z = sizes (found (goal.at.offset_bounds-line-a c).After-place_of-place (clear (goal.at.offset_bounds-line-a c).Else-fault-ne0)) in omega (arith, z.within, z.short, z.ends)

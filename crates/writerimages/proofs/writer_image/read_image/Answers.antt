@@ -1,4 +1,5 @@
 -- `writerimages::writer_image::read_image` meets its contract: the fields that the state gives stand where they were read. Assumes nothing.
+use Rattle.std.specs.Prelude.{Option, ℕ}
 use mathlib.Core.Path.{◌≡◌, ap, ap₂, ◌∙◌}
 use native.Mathlib.Omega.{arith}
 use mathlib.Core.Bool.{Bool, ◌&&◌}
@@ -6,9 +7,6 @@ use Prim.Native.Nat.{◌+◌, ◌≤◌}
 use lib.Dec.{eqb}
 use lib.ListN.{length, get_or}
 use Rattle.lists.specs.Lists.{part, same}
-use Rattle.course.specs.declared.Last.{Last}
-use Rattle.course.specs.declared.Place.{Place}
-use Rattle.writer.specs.declared.state.Rest.{Rest}
 use Rattle.fields.specs.Fields.{bytes_for}
 use Rattle.fields.specs.Frame.{shows_frame}
 use Rattle.writerimages.specs.WriterImage.{writer_tag, rest_byte, rest_bytes, rest_by, state_of}
@@ -16,6 +14,7 @@ use Rattle.fields.proofs.NumberLaws.{part_known}
 use Rattle.writerimages.proofs.WriterLaws.{image_shown}
 use borrow.Author.Rules.{rules}
 use Rattle.writerimages.proofs.writer_image.read_image.Goals as goal
+use Rattle.writer.specs.declared.state.Part.{Part}
 
 pub overflow_cast-crc : goal.overflow_cast-crc
 overflow_cast-crc c =
@@ -44,7 +43,7 @@ returns c =
     let used = part_known 11 2 h _ (omega (arith, h-long)) (omega arith) c.number_in-used.ensures in (
       simp (last, c.settings_in-settings.ensures, place, c.rest_by-rest.ensures, crc.0, used.0, held),
       ap₂ (λ (u v : Bool). u && v)
-          (c.shows_frame.ensures ∙ ap₂ (λ (l : Last) (p : Place). shows_frame writer_tag l p b) last place)
-          (c.shows_rest.ensures ∙ ap (λ (r : Rest). eqb (get_or b 7 0) (rest_byte r) && (same (part 16 7 b) (rest_bytes r) && same (part 29 8 b) (bytes_for 8 0))) rest)
+          (c.shows_frame.ensures ∙ ap₂ (λ (l : Option ℕ) (p : Option ℕ). shows_frame writer_tag l p b) last place)
+          (c.shows_rest.ensures ∙ ap (λ (r : Option Part). eqb (get_or b 7 0) (rest_byte r) && (same (part 16 7 b) (rest_bytes r) && same (part 29 8 b) (bytes_for 8 0))) rest)
           ∙ image_shown b h held long crc.2 used.2,
     )

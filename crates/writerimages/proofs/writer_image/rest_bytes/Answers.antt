@@ -1,9 +1,8 @@
 -- `writerimages::writer_image::rest_bytes` meets its contract. Assumes nothing.
-use mathlib.Core.Path.{sym, ap}
+use mathlib.Core.Path.{refl}
 use Rattle.fields.specs.Fields.{bytes_for}
-use Rattle.writerimages.specs.WriterImage.{rest_bytes}
 use Rattle.writerimages.proofs.writer_image.rest_bytes.Goals as goal
 
-pub returns-in-Part : goal.returns-in-Part
+pub returns-in-Some : goal.returns-in-Some
 unfolding bytes_for
-returns-in-Part c = sym (ap rest_bytes c.in-Part.is)
+returns-in-Some c = simp (c.to_le_bytes.ensures, c.to_le_bytes-in-Some.ensures, c.in-Some.is) refl

@@ -1,9 +1,0 @@
--- `pace::run_all` is safe and ends. Assumes nothing.
-use Prim.Native.Nat.{◌≤◌, ◌-◌}
-use Rattle.pace.proofs.run_all.Given as goal
-
-abbrev pub invariant-loop-k : goal.invariant-loop-k
-invariant-loop-k g l = l.k ≤ 24
-
-abbrev pub decreases-loop-k : goal.decreases-loop-k
-decreases-loop-k g l = 24 - l.k

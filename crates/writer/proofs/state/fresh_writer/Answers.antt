@@ -1,9 +1,0 @@
--- `writer::state::fresh_writer` meets its contract. Assumes nothing.
-use borrow.Author.Rules.{rules}
-use Rattle.writer.proofs.state.fresh_writer.Goals as goal
-
-pub no_settings-none-requires : goal.no_settings-none-requires
-no_settings-none-requires c = search rules
-
-pub returns : goal.returns
-returns c = simp c.no_settings-none.ensures
