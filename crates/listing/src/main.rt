@@ -12,8 +12,10 @@ ghost use Rattle.std.specs.Prelude.{◌≡◌, ◌++◌, ◌+◌, ◌≤◌, len
 ghost use Rattle.rows.specs.Rows.{row_text};
 ghost use Rattle.listing.specs.Lines.{Between, Lists};
 
+use arguments::Word;
 use reader::state::{Event, Reader};
 use reader::{read, state};
+use std::env::Env;
 use std::io;
 use std::io::Read;
 
@@ -111,11 +113,18 @@ fn next_line(
     }
 }
 
+// Word i of the command line.
+fn word(rt: &impl Env, i: usize) -> Word {
+    let mut room = [0u8; 8];
+    let read = rt.arg(i, &mut room);
+    Word { read, room }
+}
+
 fn main(rt: HostRuntime) {
     let mut from = rt.stdin();
     let mut room = [0u16; 16384];
     let mut text = [0u8; 69216];
-    let packets = arguments::has_word(&rt, 1);
+    let packets = word(&rt, 1).is_there();
     let mut st = state::fresh_reader(0, 8);
     for _ in 0..u64::MAX {
         let Some(next) = next_line(&rt, &mut from, st, packets, &mut room, &mut text) else {

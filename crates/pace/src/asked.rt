@@ -1,4 +1,5 @@
 // What is asked: by the words of the command line, or one of all.
+use arguments::Word;
 use std::env::Env;
 
 // The job's letter, the mode, and how many rounds.
@@ -9,11 +10,23 @@ pub struct Asked {
     pub rounds: u16,
 }
 
+// Word i of the command line.
+fn word(rt: &impl Env, i: usize) -> Word {
+    let mut room = [0u8; 8];
+    let read = rt.arg(i, &mut room);
+    Word { read, room }
+}
+
+// There are three words behind the program's own name.
+pub(crate) fn has_three(rt: &impl Env) -> bool {
+    word(rt, 3).is_there() && !word(rt, 4).is_there()
+}
+
 pub(crate) fn by_words(rt: &impl Env) -> Asked {
     Asked {
-        job: arguments::letter_at(rt, 1),
-        mode: arguments::mode_at(rt, 2),
-        rounds: arguments::number_at(rt, 3),
+        job: word(rt, 1).letter(),
+        mode: word(rt, 2).mode(),
+        rounds: word(rt, 3).number(),
     }
 }
 

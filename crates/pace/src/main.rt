@@ -35,7 +35,7 @@ fn run_all(rt: &impl Print, batch: &mut [u16; 13728]) -> io::Result<()> {
 
 fn main(rt: HostRuntime) -> io::Result<()> {
     let mut batch = [0u16; 13728];
-    if arguments::has_words(&rt, 3) {
+    if asked::has_three(&rt) {
         return run(&rt, asked::by_words(&rt), &mut batch);
     }
     run_all(&rt, &mut batch)

@@ -33,7 +33,7 @@ fn main(rt: HostRuntime) -> io::Result<()> {
     // as much as there is room for; behind the end of the input the bytes stay 0
     io::copy(&mut rt.stdin().take(27456), &mut &mut bytes[..])?;
     octets::words_of(&bytes, &mut batch);
-    if arguments::has_words(&rt, 3) {
+    if asked::has_three(&rt) {
         return run(&rt, asked::by_words(&rt), &batch, &mut room);
     }
     run_all(&rt, &batch, &mut room)

@@ -1,5 +1,6 @@
 // What happens to the lines on their way, as the words of the command line say it.
 use crate::plan;
+use arguments::Word;
 use std::env::Env;
 
 #[derive(Clone, Copy)]
@@ -9,6 +10,19 @@ pub enum Damage {
     Lost { line: u16, count: u16 },
     // one line is spoiled
     Spoiled { line: u16 },
+}
+
+// Word i of the command line.
+fn word(rt: &impl Env, i: usize) -> Word {
+    let mut room = [0u8; 8];
+    let read = rt.arg(i, &mut room);
+    Word { read, room }
+}
+
+// There are so many words behind the program's own name.
+fn has_words(rt: &impl Env, count: u8) -> bool {
+    let last = usize::from(count);
+    word(rt, last).is_there() && !word(rt, last + 1).is_there()
 }
 
 // `lose LINE COUNT`. So many lines have to be sent from that one on.
@@ -25,14 +39,14 @@ fn spoil(line: u16) -> Option<Damage> {
 
 // The damage that the words ask for, where they are understood.
 pub(crate) fn asked(rt: &impl Env) -> Option<Damage> {
-    if !arguments::has_word(rt, 1) {
+    if !word(rt, 1).is_there() {
         return Some(Damage::None);
     }
-    if arguments::has_words(rt, 3) && arguments::is_word(rt, 1, b"lose") {
-        return lose(arguments::number_at(rt, 2), arguments::number_at(rt, 3));
+    if has_words(rt, 3) && word(rt, 1).is(b"lose") {
+        return lose(word(rt, 2).number(), word(rt, 3).number());
     }
-    if arguments::has_words(rt, 2) && arguments::is_word(rt, 1, b"spoil") {
-        return spoil(arguments::number_at(rt, 2));
+    if has_words(rt, 2) && word(rt, 1).is(b"spoil") {
+        return spoil(word(rt, 2).number());
     }
     None
 }

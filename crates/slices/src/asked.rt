@@ -1,4 +1,5 @@
 // What is asked by the words of the command line; with none, 8-bit mode and one round.
+use arguments::Word;
 use std::env::Env;
 
 #[derive(Clone, Copy)]
@@ -7,12 +8,24 @@ pub struct Asked {
     pub rounds: u16,
 }
 
+// Word i of the command line.
+fn word(rt: &impl Env, i: usize) -> Word {
+    let mut room = [0u8; 8];
+    let read = rt.arg(i, &mut room);
+    Word { read, room }
+}
+
+// There are two words behind the program's own name.
+fn has_two(rt: &impl Env) -> bool {
+    word(rt, 2).is_there() && !word(rt, 3).is_there()
+}
+
 pub(crate) fn by_words(rt: &impl Env) -> Asked {
-    if !arguments::has_words(rt, 2) {
+    if !has_two(rt) {
         return Asked { mode: 8, rounds: 1 };
     }
     Asked {
-        mode: arguments::mode_at(rt, 1),
-        rounds: arguments::number_at(rt, 2),
+        mode: word(rt, 1).mode(),
+        rounds: word(rt, 2).number(),
     }
 }
