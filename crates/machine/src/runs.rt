@@ -20,12 +20,17 @@ pub fn stops(mode: u8, w: u16) -> bool
     class::is_code(w) | ((mode == 8) & class::is_null(w))
 }
 
-// How many data words a block may have: up to the count, if it is stated, and to the room's end.
+// How many data words a block may have: up to the count, if it is stated, and to the room's end. Not std's `min` here, nor its `saturating_sub` below:
+// `smaller_of` and `minus_or_zero` have promises and edits of ours (docs/PROMISES.md), which so are of code that runs.
 #[tactic(auto, unfolding(crate::specs::Runs::limit_of, lists::specs::Tests::pick))]
 pub fn limit_of(room: usize, n: usize) -> usize
     ensures { result ≡ limit_of room n }
 {
-    if n == 0 { room } else { n.min(room) }
+    if n == 0 {
+        room
+    } else {
+        lists::smaller_of(n, room)
+    }
 }
 
 // How many of so many words a phase takes at once, if no run ends among them: idle all, data as many as there is space for.
@@ -38,7 +43,10 @@ pub fn most_of(phase: Phase, long: usize, room: usize) -> usize
             announced,
             collected,
             ..
-        } => long.min(limit_of(room, announced).saturating_sub(collected)),
+        } => lists::smaller_of(
+            long,
+            lists::minus_or_zero(limit_of(room, announced), collected),
+        ),
         _ => 0,
     }
 }
@@ -50,8 +58,7 @@ pub fn took(phase: Phase, taken: usize) -> Ran
     Ran { phase, taken }
 }
 
-// The phase behind so many words of a run, of which it takes no more than it may: data collects them. The crate `walks` does not ask for it:
-// there a match on the phase itself is faster.
+// The phase behind so many words of a run, of which it takes no more than it may: data collects them.
 #[tactic(auto, using(crate::proofs::RunLaws::end_in_room))]
 pub fn behind(phase: Phase, room: usize, k: usize) -> Ran
     ensures { (result.taken ≡ most_by phase room k) × (result.phase ≡ ran_phase phase (most_by phase room k)) }

@@ -77,21 +77,13 @@ pub(crate) fn take_run<P: Piece>(mode: u8, phase: Phase, words: &[P], room: &mut
         × (result.phase ≡ ran_phase phase result.taken)
         × (P.words room.new ≡ ran_room mode phase (P.words words.now) result.taken (P.words room.old)) }
 {
-    let most = runs::most_of(phase, P::count(words), P::count(room));
+    let long = P::count(room);
+    let most = runs::most_of(phase, P::count(words), long);
     let k = run_of(mode, P::part(words, 0, most));
     match phase {
-        Phase::Data {
-            mark,
-            announced,
-            collected,
-        } => {
+        Phase::Data { collected, .. } => {
             put_run(mode, collected, P::part(words, 0, k), room);
-            let next = Phase::Data {
-                mark,
-                announced,
-                collected: collected + k,
-            };
-            runs::took(next, k)
+            runs::behind(phase, long, k)
         }
         _ => runs::took(phase, k),
     }
