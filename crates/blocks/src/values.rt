@@ -31,8 +31,10 @@ pub fn all_valued(mode: u8, s: &[u16]) -> bool
     ensures { result ≡ each (λ v. ltb v (values mode)) s.now }
 {
     let mut bits = 0;
-    for c in s.chunks(512) {
-        bits |= bits_of(c);
+    let mut left = s;
+    while let Some((front, rest)) = left.split_first_chunk::<512>() {
+        bits |= bits_of(front);
+        left = rest;
     }
-    bits < words::forms::values_of(mode)
+    (bits | bits_of(left)) < words::forms::values_of(mode)
 }

@@ -48,17 +48,21 @@ pub(crate) fn settings_of(line: &[u16]) -> Settings
     }
 }
 
-// EAV at 0-3, and SAV in the four words at sav, with the F and V of the EAV.
+// EAV at 0-3, and SAV in the four words at sav, with the F and V of the EAV. Each test leaves, the first of what no EAV is without: what is no line costs little.
 fn is_timed(sav: usize, line: &[u16]) -> bool
     requires { (4 ≤ length line.now) × (sav + 4 ≤ length line.now) }
     ensures { result ≡ timed sav line.now }
 {
+    if !line.starts_with(&[0x3ff, 0x000, 0x000]) {
+        return false;
+    }
     let w = line[3];
     let f = w / 256 % 2 == 1;
     let v = w / 128 % 2 == 1;
-    let eav = line.starts_with(&timing::timing_words(f, v, true));
-    let behind = line[sav..].starts_with(&timing::timing_words(f, v, false));
-    eav & behind
+    if !line.starts_with(&timing::timing_words(f, v, true)) {
+        return false;
+    }
+    line[sav..].starts_with(&timing::timing_words(f, v, false))
 }
 
 // The header words after the first six, each in its form.

@@ -1,9 +1,10 @@
 -- `blocks::values::all_valued` meets its contract. Assumes nothing.
+use lib.ListN.{length}
 use Rattle.blocks.proofs.ValueLaws.{Together}
 use Rattle.blocks.proofs.values.all_valued.Given as goal
 
-abbrev pub invariant-loop-c : goal.invariant-loop-c
-invariant-loop-c l = record {
-  more : (goal.iterator-loop-c).can_next l.c-iterator × (goal.iterator-loop-c).is_finite l.c-iterator;
-  said : Together l.s l.bits l.c-iterator.rest.now;
-}
+abbrev pub invariant-loop-front : goal.invariant-loop-front
+invariant-loop-front l = Together l.s l.bits l.left
+
+abbrev pub decreases-loop-front : goal.decreases-loop-front
+decreases-loop-front l = length l.left
