@@ -18,16 +18,21 @@ fn sums(rt: &impl Print, words: &[u16]) -> io::Result<()> {
     let register = crc::crc_of(crc::CRC_START, words);
     let [low, high] = crc::crc_words(register);
     let sum = checksum::checksum_of(words);
-    println!(rt; "crc {register} {low} {high} {sum}")
+    rt.write_all(b"crc")?;
+    print!(rt; " {register}")?;
+    print!(rt; " {low}")?;
+    print!(rt; " {high}")?;
+    print!(rt; " {sum}")?;
+    rt.write_all(b"\n")
 }
 
 // `Header NUMBER`, row `header WORD ..`: the 53 words of a header with the heading's settings.
 fn headed(rt: &impl Print, number: u64, hd: &[u64; 52]) -> io::Result<()> {
-    print!(rt; "header")?;
+    rt.write_all(b"header")?;
     for w in header::header_words((number % 65536) as u16, heading::settings_of(hd)) {
         print!(rt; " {w}")?;
     }
-    println!(rt)
+    rt.write_all(b"\n")
 }
 
 // Steps of words, headers and classes. `Room INDEX COUNT KIND SEED`: words of the room, the kind as in made.rt.

@@ -26,7 +26,8 @@ fn number_laid(a: Laid) -> u64 {
 
 fn put_row(rt: &impl Print, name: &str, answer: u64, line: &[u16]) -> io::Result<()> {
     let register = crc::crc_of(crc::CRC_START, line);
-    println!(rt; "{name} {answer} {register}")
+    print!(rt; "{name} ")?;
+    println!(rt; "{answer} {register}")
 }
 
 // Code, AAI, block type and flag of a step; both addresses and the reserved words are 0.
