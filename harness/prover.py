@@ -1,7 +1,8 @@
 """Crates with an edit, held to the prover: what harness/edits and harness/beyond share.
 
 An edit is a text: lines with # say what it is; then for each file `file:`, and pairs of `old:` and `new:`, each one line or several one
-after another. An old text stands exactly once in its file. A file with no old text is a new one.
+after another. An old text stands exactly once in its file. A file with no old text is a new one. An edit that begins with `over:` and the name of
+a form changes what that form made: the same code in another form, with its proof, in a text of the same kind beside the edit.
 
 `rt check` keeps what it proved of a crate in crates/CRATE/out, and the prover takes its modules from there without checking them again. So an
 edit is checked over a copy of that folder, by the prover's own command as `rt must-fail` gives it, and costs what depends on the changed
@@ -34,7 +35,9 @@ def changes(edit):
             continue
         word, _, text = line.partition(":")
         text = text[1:]
-        if word == "file":
+        if word == "over" and not found:
+            found += changes(edit.parent / text)
+        elif word == "file":
             found.append([text, None, None])
         elif word == "old" and found:
             if last == "new":
