@@ -9,7 +9,7 @@ ghost use Rattle.course.specs.Course.{next_number, is_at, place_of, blocks_end, 
 ghost use Rattle.course.specs.Looks.{off_by, misplaced_by};
 
 use line::fixed::Fixed;
-use line::settings::{Found, Settings};
+use line::settings::Settings;
 
 // The number after x: the number after N is 1.
 #[tactic(auto, unfolding(crate::specs::Course::next_number, lists::specs::Tests::pick))]
@@ -98,26 +98,27 @@ fn looked_by(system: u8, t: Settings, row: Fixed, impossible: bool) -> Looked
 }
 
 // With a last number. Each test leaves, and variable lines leave before fixed ones, so that a good course is asked each thing once.
+// What is found is not taken apart by a pattern: that moves the row as a whole, and waits for its three numbers to be stored (docs/PERFORMANCE.md).
 fn look_after(system: u8, x: u16, t: Settings, place: Option<usize>, busy: bool) -> Looked
     ensures { (result.impossible ≡ impossible_after system (Some x) t place busy)
         × (result.end ≡ blocks_end (system_of system).payload t.block t.flag)
         × (result.size ≡ size_of t.block) }
 {
     let s = line::systems::system_of(system);
-    let Found { fault, row } = line::settings::find_fault(system, t);
-    if fault != 0 {
-        return looked_by(system, t, row, true);
+    let found = line::settings::find_fault(system, t);
+    if found.fault != 0 {
+        return looked_by(system, t, found.row, true);
     }
     if !((1 <= x) & (x <= s.lines)) {
-        return looked_by(system, t, row, true);
+        return looked_by(system, t, found.row, true);
     }
-    let end = end_by(s.payload, t.block, t.flag, row);
+    let end = end_by(s.payload, t.block, t.flag, found.row);
     if line::fixed::is_variable(t.block) {
-        let beyond = misplaced_by(true, end, row.size, place);
-        return looked_by(system, t, row, beyond);
+        let beyond = misplaced_by(true, end, found.row.size, place);
+        return looked_by(system, t, found.row, beyond);
     }
-    let off = misplaced_by(false, end, row.size, place);
-    looked_by(system, t, row, off | busy)
+    let off = misplaced_by(false, end, found.row.size, place);
+    looked_by(system, t, found.row, off | busy)
 }
 
 // Whether the course is impossible, where blocks end in its line, and the size of a fixed block; busy: an unfinished block, or an

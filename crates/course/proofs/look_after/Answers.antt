@@ -21,12 +21,12 @@ bound s r x e = ap (λ (y : System). not (leb 1 x && leb x y.lines)) e
 
 -- what was found when the place is asked
 module _ (c : After-end_by-end) (v : Bool) (is : is_variable c.args.t.block ≡ v) where
-  off : misplaced_by v c.end_by-end.result c.find_fault-fault.result.row.size c.args.place
+  off : misplaced_by v c.end_by-end.result c.find_fault-found.result.row.size c.args.place
       ≡ misplaced (system_of c.args.system).payload c.args.t.block
       c.args.t.flag c.args.place
   off =
       let g = c.args in
-      off_found _ g.t.block g.t.flag g.place _ v _ c.find_fault-fault.ensures.1 is
+      off_found _ g.t.block g.t.flag g.place _ v _ c.find_fault-found.ensures.1 is
       (c.end_by-end.ensures ∙ ap (λ (x : System). blocks_end x.payload g.t.block g.t.flag) c.system_of-s.ensures)
 
   numbered : not
@@ -36,13 +36,13 @@ module _ (c : After-end_by-end) (v : Bool) (is : is_variable c.args.t.block ≡ 
       sym (bound _ _ c.args.x c.system_of-s.ensures) ∙ ap not c.if-not-x-s.false
 
   clean : settings_fault c.args.system c.args.t ≡ 0
-  clean = sym c.find_fault-fault.ensures.0 ∙ c.if-fault-ne0.false
+  clean = sym c.find_fault-found.ensures.0 ∙ c.if-found-ne0.false
 
-pub returns-then-fault-ne0 : goal.returns-then-fault-ne0
-returns-then-fault-ne0 c =
+pub returns-then-found-ne0 : goal.returns-then-found-ne0
+returns-then-found-ne0 c =
     let g = c.args in (
       c.looked_by.ensures.0
-          ∙ sym (or_right (not (leb 1 g.x && leb g.x (system_of g.system).lines)) _ (or_left _ _ (ap not (ne_eqb (settings_fault g.system g.t) 0 (λ e. c.if-fault-ne0.true (c.find_fault-fault.ensures.0 ∙ e)))))),
+          ∙ sym (or_right (not (leb 1 g.x && leb g.x (system_of g.system).lines)) _ (or_left _ _ (ap not (ne_eqb (settings_fault g.system g.t) 0 (λ e. c.if-found-ne0.true (c.find_fault-found.ensures.0 ∙ e)))))),
       c.looked_by.ensures.1,
       c.looked_by.ensures.2,
     )
@@ -53,7 +53,7 @@ returns-then-not-x-s c =
     (c.looked_by-then-not-x-s.ensures.0 ∙ sym (or_left _ _ (sym (bound _ _ g.x c.system_of-s.ensures) ∙ ap not c.if-not-x-s.true)), c.looked_by-then-not-x-s.ensures.1, c.looked_by-then-not-x-s.ensures.2)
 
 pub looked_by-requires-then-is_variable : goal.looked_by-requires-then-is_variable
-looked_by-requires-then-is_variable c = c.find_fault-fault.ensures.1
+looked_by-requires-then-is_variable c = c.find_fault-found.ensures.1
 
 pub returns-then-is_variable : goal.returns-then-is_variable
 returns-then-is_variable c =
@@ -68,7 +68,7 @@ returns-then-is_variable c =
     )
 
 pub looked_by-requires-2 : goal.looked_by-requires-2
-looked_by-requires-2 c = c.find_fault-fault.ensures.1
+looked_by-requires-2 c = c.find_fault-found.ensures.1
 
 pub returns : goal.returns
 returns c =
